@@ -1,0 +1,60 @@
+-- What passes and fails of a chain of checks.
+use Prim.Native.Nat.{ℕ, zero, suc, _+_, _≤_, _<_}
+use mathlib.Core.Path.{_≡_, refl, sym, ap, _∙_}
+use mathlib.Core.Bool.{Bool, true, false, cond, _&&_}
+use mathlib.Core.List.{List, [], _∷_, _++_}
+use native.Mathlib.Omega.{arith}
+use native.Mathlib.Nat.{add-zero, zero-add}
+use lib.Dec.{eqb, leb}
+use lib.ListN.{getD, length}
+use Rattle.std.specs.declared.result.Result.{Result}
+use Rattle.std.specs.declared.result.Result.the-variants.{Ok, Err}
+use Rattle.std.proofs.shelf.Tests.{cond-true, cond-false, cases-bool, and-parts, leb-true, eqb-true, eq-eqb}
+use mathlib.Core.Logic.{_⊎_, inl, inr}
+use Rattle.block.specs.declared.faults.BlockFault.{BlockFault}
+use Rattle.block.specs.declared.faults.BlockFault.the-variants.{Length, Check, Kind, Range, NonZero}
+use Rattle.block.specs.Numbers.{zeros}
+use Rattle.block.specs.Reading.{Checked, bind, in-range, numbers-fit, zeros-in}
+use Rattle.block.proofs.Cuts.{cut, cut-none, cut-cons}
+
+-- a chain goes on where its first part passed
+pub bind-ok : {A B E : Type 0} (r : Result A E) (f : A → Result B E) (x : A) → r ≡ Ok x → bind r f ≡ f x
+bind-ok r f x h = ap (λ (s : Result _ _). bind s f) h
+
+-- a chain that passed did so in both parts
+pub bind-was : {A B E : Type 0} (r : Result A E) (f : A → Result B E) (y : B) → bind r f ≡ Ok y → (x : A) × (r ≡ Ok x) × (f x ≡ Ok y)
+bind-was (Ok x) f y h = (x, refl, h)
+bind-was (Err e) f y h = let z : _≡_ {A = ℕ} 0 1 = cc in absurd (omega arith)
+
+-- a test that passed
+pub test-was : {A E : Type 0} (b : Bool) (r : Result A E) (e : E) (y : A) → cond b r (Err e) ≡ Ok y → (b ≡ true) × (r ≡ Ok y)
+test-was true r e y h = (refl, h)
+test-was false r e y h = let z : _≡_ {A = ℕ} 0 1 = cc in absurd (omega arith)
+
+-- a field that passed lies in its range
+pub range-was : (low high v at : ℕ) → in-range low high v at ≡ Ok tt → (low ≤ v) × (v ≤ high)
+range-was low high v at h =
+    let p = and-parts (leb low v) (leb v high) (test-was (leb low v && leb v high) (Ok tt) (Range at) tt h .0) in
+    (leb-true low v (p .0), leb-true v high (p .1))
+
+-- each number of a list that passed lies in its range
+pub numbers-was : (xs : List ℕ) (y : ℕ) (ys : List ℕ) (at : ℕ) → numbers-fit (xs ++ (y ∷ ys)) at ≡ Ok tt → (1 ≤ y) × (y ≤ 1000000)
+numbers-was [] y ys at h = range-was 1 1000000 y at (bind-was (in-range 1 1000000 y at) _ tt h .1)
+numbers-was (x ∷ xs) y ys at h = numbers-was xs y ys (at + 4) (bind-was (in-range 1 1000000 x at) _ tt h .2)
+
+-- bytes that are all zero pass
+pub zeros-pass : (n : ℕ) (xs : List ℕ) (at : ℕ) → ((i : ℕ) → at ≤ i → i < at + n → getD xs i 0 ≡ 0) → zeros-in xs at n ≡ Ok tt
+unfolding zeros-in
+zeros-pass zero xs at h = refl
+zeros-pass (suc n) xs at h =
+    cond-true (eqb (getD xs at 0) 0) (zeros-in xs (at + 1) n) (Err (NonZero at)) (eq-eqb (getD xs at 0) 0 (h at (omega arith) (omega arith)))
+    ∙ zeros-pass n xs (at + 1) (λ i l u. h i (omega arith) (omega arith))
+
+-- bytes that passed are zeros
+pub zeros-cut : (n : ℕ) (xs : List ℕ) (at : ℕ) → at + n ≤ length xs → zeros-in xs at n ≡ Ok tt → zeros n ≡ cut xs at n
+unfolding zeros-in zeros
+zeros-cut zero xs at l h = sym (cut-none xs at)
+zeros-cut (suc n) xs at l h =
+    let p = test-was (eqb (getD xs at 0) 0) (zeros-in xs (at + 1) n) (NonZero at) tt h in
+    let z = eqb-true (getD xs at 0) 0 (p .0) in
+    ap (λ (ys : List ℕ). 0 ∷ ys) (zeros-cut n xs (at + 1) (omega arith) (p .1)) ∙ ap (λ (x : ℕ). x ∷ cut xs (at + 1) n) (sym z) ∙ cut-cons xs at n (omega arith)

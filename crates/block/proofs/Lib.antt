@@ -1,0 +1,6 @@
+pub mod Places
+pub mod Terms
+pub mod Wide
+pub mod Cuts
+pub mod Tables
+pub mod Checks

@@ -1,0 +1,9 @@
+pub mod Numbers
+pub mod Sum
+pub mod Mask
+pub mod Faults
+pub mod Text
+pub mod Parts
+pub mod Reading
+pub mod Writing
+pub mod Laws
