@@ -6,15 +6,20 @@ use mathlib.Core.List.{List, [], _∷_, _++_}
 use native.Mathlib.Omega.{arith}
 use native.Mathlib.Nat.{add-zero, zero-add}
 use lib.Dec.{eqb, leb}
-use lib.ListN.{getD, length}
+use lib.ListN.{getD, length, drop}
+use Rattle.std.specs.declared.option.Option.{Option}
+use Rattle.std.specs.declared.option.Option.the-variants.{Some, None}
 use Rattle.std.specs.declared.result.Result.{Result}
 use Rattle.std.specs.declared.result.Result.the-variants.{Ok, Err}
 use Rattle.std.proofs.shelf.Tests.{cond-true, cond-false, cases-bool, and-parts, leb-true, eqb-true, eq-eqb}
 use mathlib.Core.Logic.{_⊎_, inl, inr}
 use Rattle.block.specs.declared.faults.BlockFault.{BlockFault}
 use Rattle.block.specs.declared.faults.BlockFault.the-variants.{Length, Check, Kind, Range, NonZero}
-use Rattle.block.specs.Numbers.{zeros}
-use Rattle.block.specs.Reading.{Checked, bind, in-range, numbers-fit, zeros-in}
+use Rattle.block.specs.Numbers.{wide, zeros}
+use Rattle.block.specs.Reading.{Checked, bind, in-range, head-fits, numbers-fit, numbers-from, zeros-in}
+use Rattle.block.specs.declared.names.Name.{Name}
+use Rattle.block.specs.Mask.{present}
+use Rattle.block.proofs.Tables.{single, present-left}
 use Rattle.block.proofs.Cuts.{cut, cut-none, cut-cons}
 
 -- a chain goes on where its first part passed
@@ -58,3 +63,33 @@ zeros-cut (suc n) xs at l h =
     let p = test-was (eqb (getD xs at 0) 0) (zeros-in xs (at + 1) n) (NonZero at) tt h in
     let z = eqb-true (getD xs at 0) 0 (p .0) in
     ap (λ (ys : List ℕ). 0 ∷ ys) (zeros-cut n xs (at + 1) (omega arith) (p .1)) ∙ ap (λ (x : ℕ). x ∷ cut xs (at + 1) n) (sym z) ∙ cut-cons xs at n (omega arith)
+
+-- one number more of those that lie in a block
+pub numbers-step : (xs : List ℕ) (at n at′ n′ : ℕ) → at + 4 ≡ at′ → n ≡ suc n′
+    → numbers-fit (numbers-from xs at n) at ≡ bind (in-range 1 1000000 (wide 4 xs at) at) (λ _. numbers-fit (numbers-from xs at′ n′) at′)
+unfolding numbers-from
+numbers-step xs at n at′ n′ e s =
+    ap (λ (m : ℕ). numbers-fit (numbers-from xs at m) at) s
+    ∙ ap (λ (j : ℕ). bind (in-range 1 1000000 (wide 4 xs at) at) (λ _. numbers-fit (numbers-from xs j n′) j)) e
+
+pub numbers-done : (xs : List ℕ) (at n : ℕ) → n ≡ 0 → numbers-fit (numbers-from xs at n) at ≡ Ok tt
+unfolding numbers-from
+numbers-done xs at n e = ap (λ (m : ℕ). numbers-fit (numbers-from xs at m) at) e
+
+-- one entry more of those that are left in a table
+pub left-some : (ns : List (Option ℕ)) (k y at : ℕ) → k < length ns → getD ns k None ≡ Some y
+    → numbers-fit (present (drop k ns)) at ≡ bind (in-range 1 1000000 y at) (λ _. numbers-fit (present (drop (k + 1) ns)) (at + 4))
+left-some ns k y at h o =
+    ap (λ (ys : List ℕ). numbers-fit ys at) (present-left ns k h ∙ ap (λ (e : Option ℕ). single e ++ present (drop (k + 1) ns)) o)
+
+pub left-none : (ns : List (Option ℕ)) (k at : ℕ) → k < length ns → getD ns k None ≡ None → numbers-fit (present (drop k ns)) at ≡ numbers-fit (present (drop (k + 1) ns)) at
+left-none ns k at h o =
+    ap (λ (ys : List ℕ). numbers-fit ys at) (present-left ns k h ∙ ap (λ (e : Option ℕ). single e ++ present (drop (k + 1) ns)) o)
+
+-- a head that passed
+pub head-was : (name : Name) (len : ℕ) → head-fits name len ≡ Ok tt → (name .station ≤ 7) × (name .channel ≤ 7) × (name .number ≤ 1000000) × (len ≤ 224)
+head-was name len h =
+    let s = bind-was (in-range 0 7 (name .station) 2) _ tt h in
+    let c = bind-was (in-range 0 7 (name .channel) 3) _ tt (s .2) in
+    let n = bind-was (in-range 1 1000000 (name .number) 4) _ tt (c .2) in
+    (range-was 0 7 (name .station) 2 (s .1) .1, range-was 0 7 (name .channel) 3 (c .1) .1, range-was 1 1000000 (name .number) 4 (n .1) .1, range-was 0 224 len 8 (n .2) .1)

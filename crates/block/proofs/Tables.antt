@@ -15,7 +15,7 @@ use Rattle.std.specs.Options.{isSome}
 use Rattle.std.specs.Joined.{joined}
 use Rattle.std.specs.Iters.{counting}
 use Rattle.std.proofs.shelf.Lists.{append-assoc, append-nil, length-append, take-more, take-all, take-append-drop, drop-more}
-use Rattle.std.proofs.shelf.Counted.{map-counting-more}
+use Rattle.std.proofs.shelf.Counted.{map-counting-more, getD-map-counting, length-map-counting}
 use Rattle.std.proofs.shelf.Tests.{cases-lt, cases-eq, cond-true, cond-false, eq-eqb, ne-eqb, true≢false, false≢true}
 use Rattle.std.proofs.shelf.Bits.{field-of, pow-add, pow-pos, shr-high, mod-pow-add}
 use Rattle.block.specs.Numbers.{wide, big}
@@ -181,3 +181,46 @@ pub length-numbers-from : (n : ℕ) (xs : List ℕ) (at : ℕ) → length (numbe
 unfolding numbers-from
 length-numbers-from zero xs at = refl
 length-numbers-from (suc n) xs at = ap suc (length-numbers-from n xs (at + 4))
+
+-- the entry that a block has for a pair
+pub getD-named-of : (xs : List ℕ) (k : ℕ) → k < 64 → getD (named-of xs) k None ≡ named-in xs (wide 8 xs 16) k
+unfolding named-of
+getD-named-of xs k h = getD-map-counting (named-in xs (wide 8 xs 16)) 0 64 k k None h (zero-add k)
+
+pub length-named-of : (xs : List ℕ) → length (named-of xs) ≡ 64
+unfolding named-of
+length-named-of xs = length-map-counting (named-in xs (wide 8 xs 16)) 0 64
+
+pub named-on : (xs : List ℕ) (m k : ℕ) → eqb (bit m k) 1 ≡ true → named-in xs m k ≡ Some (wide 4 xs (24 + 4 * below m k))
+named-on xs m k h = cond-true (eqb (bit m k) 1) (Some (wide 4 xs (24 + 4 * below m k))) None h
+
+pub named-off : (xs : List ℕ) (m k : ℕ) → eqb (bit m k) 1 ≡ false → named-in xs m k ≡ None
+named-off xs m k h = cond-false (eqb (bit m k) 1) (Some (wide 4 xs (24 + 4 * below m k))) None h
+
+-- the place of the next pair
+pub below-some : (ns : List (Option ℕ)) (m k y : ℕ) → m ≡ mask-of ns 64 → k < 64 → getD ns k None ≡ Some y → below m (k + 1) ≡ below m k + 1
+unfolding below
+below-some ns m k y e h o =
+    let b : bit m k ≡ 1 = ap (λ (n : ℕ). bit n k) e ∙ bit-mask ns 64 k h ∙ ap flag o in
+    rw add-one (ap (λ (j : ℕ). below m k + j) b)
+
+pub below-none : (ns : List (Option ℕ)) (m k : ℕ) → m ≡ mask-of ns 64 → k < 64 → getD ns k None ≡ None → below m (k + 1) ≡ below m k
+unfolding below
+below-none ns m k e h o =
+    let b : bit m k ≡ 0 = ap (λ (n : ℕ). bit n k) e ∙ bit-mask ns 64 k h ∙ ap flag o in
+    rw add-one (ap (λ (j : ℕ). below m k + j) b ∙ add-zero (below m k))
+
+-- the bytes of one entry more
+pub numbers-some : (ns : List (Option ℕ)) (k y : ℕ) → k < length ns → getD ns k None ≡ Some y → numbers (take (k + 1) ns) ≡ numbers (take k ns) ++ big 4 y
+numbers-some ns k y h o =
+    ap (joined (big 4)) (present-more ns k h ∙ ap (λ (e : Option ℕ). present (take k ns) ++ single e) o) ∙ joined-append (present (take k ns)) (y ∷ [])
+    ∙ ap (λ (ys : List ℕ). numbers (take k ns) ++ ys) (append-nil (big 4 y))
+
+pub numbers-none : (ns : List (Option ℕ)) (k : ℕ) → k < length ns → getD ns k None ≡ None → numbers (take (k + 1) ns) ≡ numbers (take k ns)
+numbers-none ns k h o =
+    ap (joined (big 4)) (present-more ns k h ∙ ap (λ (e : Option ℕ). present (take k ns) ++ single e) o ∙ append-nil (present (take k ns)))
+
+-- the bytes up to pair k end where its own number begins
+pub length-numbers : (ns : List (Option ℕ)) (m k : ℕ) → length ns ≡ 64 → m ≡ mask-of ns 64 → k ≤ 64 → length (numbers (take k ns)) ≡ 4 * below m k
+length-numbers ns m k l e h =
+    length-joined (present (take k ns)) ∙ ap (λ (j : ℕ). 4 * j) (sym (below-present ns 64 k (omega arith) h)) ∙ ap (λ (n : ℕ). 4 * below n k) (sym e)

@@ -73,14 +73,16 @@ bytes-append xs ys b d i =
 pub bytes-zeros : (n : ℕ) → Bytes (zeros n)
 bytes-zeros n i = rw (getD-zeros n i) (omega arith)
 
-pub bytes-one : (x : ℕ) → x < 256 → Bytes (x ∷ [])
-bytes-one x h zero = h
-bytes-one x h (suc i) = omega arith
+-- each of some bytes, written out
+abbrev pub Each : List ℕ → Type 0
+Each [] = Unit {0}
+Each (x ∷ xs) = (x < 256) × Each xs
 
-pub bytes-cons : (x : ℕ) (xs : List ℕ) → x < 256 → Bytes xs → Bytes (x ∷ xs)
-bytes-cons x xs h b zero = h
-bytes-cons x xs h b (suc i) = b i
+pub bytes-each : (xs : List ℕ) → Each xs → Bytes xs
+bytes-each [] e i = omega arith
+bytes-each (x ∷ xs) e zero = e .0
+bytes-each (x ∷ xs) e (suc i) = bytes-each xs (e .1) i
 
 pub bytes-big : (n x : ℕ) → Bytes (big n x)
 bytes-big zero x i = omega arith
-bytes-big (suc n) x i = bytes-append (big n (x / 256)) (x % 256 ∷ []) (bytes-big n (x / 256)) (bytes-one (x % 256) (mod-below x 256 (omega arith))) i
+bytes-big (suc n) x i = bytes-append (big n (x / 256)) (x % 256 ∷ []) (bytes-big n (x / 256)) (bytes-each (x % 256 ∷ []) (mod-below x 256 (omega arith), tt)) i
