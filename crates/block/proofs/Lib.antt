@@ -7,4 +7,6 @@ pub mod Checks
 pub mod Laying
 pub mod Sums
 pub mod Written
-
+pub mod Reread
+pub mod Assembled
+pub mod Correspond

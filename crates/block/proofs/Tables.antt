@@ -5,7 +5,7 @@ use mathlib.Core.Bool.{Bool, true, false, cond}
 use mathlib.Core.List.{List, [], _∷_, _++_, map}
 use mathlib.Core.Logic.{_⊎_, inl, inr}
 use native.Mathlib.Nat.{pow-suc, mul-assoc, add-comm, add-mul-mod-self-right, add-assoc, zero-add, add-zero}
-use native.Mathlib.Numerals.{add-one}
+use native.Mathlib.Numerals.{add-one, one-add}
 use native.Mathlib.Omega.{arith}
 use lib.Dec.{eqb}
 use lib.ListN.{getD, length, take, drop}
@@ -224,3 +224,24 @@ numbers-none ns k h o =
 pub length-numbers : (ns : List (Option ℕ)) (m k : ℕ) → length ns ≡ 64 → m ≡ mask-of ns 64 → k ≤ 64 → length (numbers (take k ns)) ≡ 4 * below m k
 length-numbers ns m k l e h =
     length-joined (present (take k ns)) ∙ ap (λ (j : ℕ). 4 * j) (sym (below-present ns 64 k (omega arith) h)) ∙ ap (λ (n : ℕ). 4 * below n k) (sym e)
+
+flag-named : (xs : List ℕ) (m k : ℕ) → flag (named-in xs m k) ≡ bit m k
+flag-named xs m k =
+    elim (cases-eq (bit m k) 1) [
+      | inl on ↦ ap flag (named-on xs m k (eq-eqb (bit m k) 1 on)) ∙ sym on
+      | inr off ↦
+          (let z : bit m k ≡ 0 = omega (arith, bit-lt m k) in
+          ap flag (named-off xs m k (ne-eqb (bit m k) 1 off)) ∙ sym z)
+    ]
+
+mask-low : (xs : List ℕ) (n : ℕ) → n ≤ 64 → mask-of (named-of xs) n ≡ wide 8 xs 16 % 2 ^ n
+unfolding mask-of
+mask-low xs zero h = omega arith
+mask-low xs (suc n) h =
+    let m = wide 8 xs 16 in
+    ap₂ (λ (a b : ℕ). a + b * 2 ^ n) (mask-low xs n (omega arith)) (ap flag (getD-named-of xs n h) ∙ flag-named xs m n)
+    ∙ add-comm (m % 2 ^ n) (bit m n * 2 ^ n) ∙ sym (mod-pow-add m 1 n) ∙ ap (λ (j : ℕ). m % 2 ^ j) (one-add n)
+
+-- the mask of the named numbers of a block is the block's mask
+pub mask-named-of : (xs : List ℕ) → wide 8 xs 16 < 2 ^ 64 → mask-of (named-of xs) 64 ≡ wide 8 xs 16
+mask-named-of xs h = mask-low xs 64 (omega arith) ∙ omega arith

@@ -86,3 +86,7 @@ bytes-each (x ∷ xs) e (suc i) = bytes-each xs (e .1) i
 pub bytes-big : (n x : ℕ) → Bytes (big n x)
 bytes-big zero x i = omega arith
 bytes-big (suc n) x i = bytes-append (big n (x / 256)) (x % 256 ∷ []) (bytes-big n (x / 256)) (bytes-each (x % 256 ∷ []) (mod-below x 256 (omega arith), tt)) i
+
+pub wide-lt : (n : ℕ) (xs : List ℕ) (k : ℕ) → Bytes xs → wide n xs k < 256 ^ n
+wide-lt zero xs k b = omega arith
+wide-lt (suc n) xs k b = let one = b (k + n) in omega (arith, wide-lt n xs k b, pow-suc 256 n)

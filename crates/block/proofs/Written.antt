@@ -33,21 +33,21 @@ use Rattle.block.proofs.Laying.{length-fit}
 use Rattle.block.proofs.Sums.{weighted-left, weighted-fits}
 
 -- the first 24 bytes of a letter's block, and those with its named numbers
-abbrev lead : Parts → List ℕ
+abbrev pub lead : Parts → List ℕ
 lead p = head (p .name) (length (p .body)) (mask-of (p .named) 64)
 
-abbrev low : Parts → List ℕ
+abbrev pub low : Parts → List ℕ
 low p = lead p ++ numbers (p .named)
 
 -- the bytes up to the body, and the four of the check
-abbrev upper : Parts → List ℕ
+abbrev pub upper : Parts → List ℕ
 upper p = fit 280 (low p)
 
-abbrev seal : Parts → List ℕ
+abbrev pub seal : Parts → List ℕ
 seal p = big 4 (weighted (front p) 508)
 
 -- all after the named numbers
-abbrev after : Parts → List ℕ
+abbrev pub after : Parts → List ℕ
 after p = zeros (280 - length (low p)) ++ (p .body ++ (zeros (508 - length (upper p ++ p .body)) ++ seal p))
 
 regroup : (l n z b y k : List ℕ) → ((((l ++ n) ++ z) ++ b) ++ y) ++ k ≡ l ++ (n ++ (z ++ (b ++ (y ++ k))))
@@ -70,7 +70,7 @@ same-parts n ns b p en em eb =
     ap (λ (a : Name). record { name = a; named = ns; body = b }) en ∙ ap (λ (a : List (Option ℕ)). record { name = p .name; named = a; body = b }) em
     ∙ ap (λ (a : List ℕ). record { name = p .name; named = p .named; body = a }) eb
 
-ok-same : {A E : Type 0} {x y : A} → _≡_ {A = Result A E} (Ok x) (Ok y) → x ≡ y
+pub ok-same : {A E : Type 0} {x y : A} → _≡_ {A = Result A E} (Ok x) (Ok y) → x ≡ y
 ok-same h = cc
 
 pub split : (p : Parts) → block-of p ≡ lead p ++ (numbers (p .named) ++ after p)
@@ -79,22 +79,22 @@ split p = regroup (lead p) (numbers (p .named)) (zeros (280 - length (low p))) (
 
 -- lengths
 module _ (p : Parts) (t : Typed p) (fits : head-fits (p .name) (length (p .body)) ≡ Ok tt) where
-  few : length (present (p .named)) ≤ 64
+  pub few : length (present (p .named)) ≤ 64
   few =
       let b = below-present (p .named) 64 64 (omega (arith, t .table)) (omega arith) in
       let e = ap (λ (ns : List (Option ℕ)). length (present ns)) (take-all 64 (p .named) (omega (arith, t .table))) in
       omega (arith, b, e, below-le (mask-of (p .named) 64) 64)
 
-  length-low : length (low p) ≡ 24 + 4 * length (present (p .named))
+  pub length-low : length (low p) ≡ 24 + 4 * length (present (p .named))
   length-low = length-append (lead p) (numbers (p .named)) ∙ ap (λ (k : ℕ). 24 + k) (length-joined (present (p .named)))
 
-  length-upper : length (upper p) ≡ 280
+  pub length-upper : length (upper p) ≡ 280
   length-upper = length-fit 280 (low p) (omega (arith, length-low, few))
 
-  length-filled : length (upper p ++ p .body) ≡ 280 + length (p .body)
+  pub length-filled : length (upper p ++ p .body) ≡ 280 + length (p .body)
   length-filled = length-append (upper p) (p .body) ∙ ap (λ (k : ℕ). k + length (p .body)) length-upper
 
-  length-front : length (front p) ≡ 508
+  pub length-front : length (front p) ≡ 508
   unfolding front
   length-front = let h = head-was (p .name) (length (p .body)) fits in length-fit 508 (upper p ++ p .body) (omega (arith, length-filled, h .3))
 

@@ -1,0 +1,5 @@
+use Rattle.block.proofs.Correspond.{examples}
+use Rattle.block.proofs.laws.worked_examples.Needs as need
+
+pub returns : need.returns
+returns c = examples
