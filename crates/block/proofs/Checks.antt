@@ -1,5 +1,5 @@
 -- What passes and fails of a chain of checks.
-use Prim.Native.Nat.{ℕ, zero, suc, _+_, _≤_, _<_}
+use Prim.Native.Nat.{ℕ, zero, suc, _+_, _-_, _≤_, _<_}
 use mathlib.Core.Path.{_≡_, refl, sym, ap, _∙_}
 use mathlib.Core.Bool.{Bool, true, false, cond, _&&_}
 use mathlib.Core.List.{List, [], _∷_, _++_}
@@ -11,6 +11,10 @@ use Rattle.std.specs.declared.option.Option.{Option}
 use Rattle.std.specs.declared.option.Option.the-variants.{Some, None}
 use Rattle.std.specs.declared.result.Result.{Result}
 use Rattle.std.specs.declared.result.Result.the-variants.{Ok, Err}
+use Rattle.std.specs.Holes.{between}
+use Rattle.std.specs.shelf.Lists.{sum}
+use Rattle.std.proofs.shelf.Lists.{length-take-le, length-drop, getD-take, getD-drop}
+use Rattle.std.proofs.shelf.Sums.{getD-le-sumBy}
 use Rattle.std.proofs.shelf.Tests.{cond-true, cond-false, cases-bool, and-parts, leb-true, eqb-true, eq-eqb}
 use mathlib.Core.Logic.{_⊎_, inl, inr}
 use Rattle.block.specs.declared.faults.BlockFault.{BlockFault}
@@ -93,3 +97,13 @@ head-was name len h =
     let c = bind-was (in-range 0 7 (name .channel) 3) _ tt (s .2) in
     let n = bind-was (in-range 1 1000000 (name .number) 4) _ tt (c .2) in
     (range-was 0 7 (name .station) 2 (s .1) .1, range-was 0 7 (name .channel) 3 (c .1) .1, range-was 1 1000000 (name .number) 4 (n .1) .1, range-was 0 224 len 8 (n .2) .1)
+
+-- bytes whose sum is 0 are all zero
+pub sum-passes : (xs : List ℕ) (from to : ℕ) → to ≤ length xs → sum (between from to xs) ≡ 0 → zeros-in xs from (to - from) ≡ Ok tt
+sum-passes xs from to h e =
+    zeros-pass (to - from) xs from (λ i l u.
+    let j : from + (i - from) ≡ i = omega arith in
+    let part = between from to xs in
+    let long : length part ≡ to - from = length-take-le (to - from) (drop from xs) (omega (arith, length-drop from xs)) in
+    let here : getD part (i - from) 0 ≡ getD xs i 0 = getD-take (to - from) (drop from xs) (i - from) 0 (omega arith) ∙ getD-drop from xs (i - from) 0 ∙ ap (λ (k : ℕ). getD xs k 0) j in
+    omega (arith, here, getD-le-sumBy (λ (x : ℕ). x) part (i - from) 0 (omega arith)))

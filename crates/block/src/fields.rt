@@ -2,6 +2,7 @@
 ghost use mathlib.Core.Path.{_≡_};
 ghost use Prim.Native.Nat.{_+_, _-_, _≤_};
 ghost use lib.ListN.{length};
+ghost use Rattle.std.specs.shelf.Lists.{sum};
 ghost use Rattle.block.specs.Numbers.{wide};
 ghost use Rattle.block.specs.Sum.{weighted};
 ghost use Rattle.block.specs.Reading.{in-range, head-fits, numbers-fit, numbers-from, zeros-in};
@@ -9,12 +10,12 @@ use crate::faults::BlockFault;
 use crate::names::Name;
 
 // The largest number of a letter on its channel.
-pub const LAST_NUMBER: u32 = 1_000_000;
+pub(crate) const LAST_NUMBER: u32 = 1_000_000;
 // The longest body, in bytes.
-pub const LONGEST_BODY: usize = 224;
+pub(crate) const LONGEST_BODY: usize = 224;
 
 // The number in 4 bytes from a place.
-pub fn number_at(bytes: &[u8], at: usize) -> u32
+pub(crate) fn number_at(bytes: &[u8], at: usize) -> u32
     requires { ⌜ at + 4 ≤ length (now bytes) ⌝ }
     ensures { λ r. ⌜ r ≡ wide 4 (now (bytes .entry)) at ⌝ }
 {
@@ -22,7 +23,7 @@ pub fn number_at(bytes: &[u8], at: usize) -> u32
 }
 
 // The mask, in the 8 bytes from byte 16.
-pub fn mask_at(bytes: &[u8]) -> u64
+pub(crate) fn mask_at(bytes: &[u8]) -> u64
     requires { ⌜ 24 ≤ length (now bytes) ⌝ }
     ensures { λ r. ⌜ r ≡ wide 8 (now (bytes .entry)) 16 ⌝ }
 {
@@ -32,7 +33,7 @@ pub fn mask_at(bytes: &[u8]) -> u64
 }
 
 // The check of the first 508 bytes: the sum of each byte's value times its place counted from one.
-pub fn check_of(bytes: &[u8]) -> u32
+pub(crate) fn check_of(bytes: &[u8]) -> u32
     requires { ⌜ 508 ≤ length (now bytes) ⌝ }
     ensures { λ r. ⌜ r ≡ weighted (now (bytes .entry)) 508 ⌝ }
 {
@@ -44,7 +45,7 @@ pub fn check_of(bytes: &[u8]) -> u32
 }
 
 // The value of the field at a place lies from low to high.
-pub fn in_range(low: usize, high: usize, value: usize, at: usize) -> Result<(), BlockFault>
+pub(crate) fn in_range(low: usize, high: usize, value: usize, at: usize) -> Result<(), BlockFault>
     ensures { λ r. ⌜ r ≡ in-range low high value at ⌝ }
 {
     if low <= value && value <= high {
@@ -55,14 +56,14 @@ pub fn in_range(low: usize, high: usize, value: usize, at: usize) -> Result<(), 
 }
 
 // The named number at a place is 1 to a million.
-pub fn number_fits(number: u32, at: usize) -> Result<(), BlockFault>
+pub(crate) fn number_fits(number: u32, at: usize) -> Result<(), BlockFault>
     ensures { λ r. ⌜ r ≡ in-range 1 1000000 number at ⌝ }
 {
     in_range(1, LAST_NUMBER as usize, number as usize, at)
 }
 
 // Poster, channel, number and length of the body are in their ranges.
-pub fn head_fits(name: Name, length: usize) -> Result<(), BlockFault>
+pub(crate) fn head_fits(name: Name, length: usize) -> Result<(), BlockFault>
     ensures { λ r. ⌜ r ≡ head-fits name length ⌝ }
 {
     in_range(0, 7, name.station as usize, 2)?;
@@ -71,11 +72,26 @@ pub fn head_fits(name: Name, length: usize) -> Result<(), BlockFault>
     in_range(0, LONGEST_BODY, length, 8)
 }
 
+// The sum of some bytes, to see at once that all are zero.
+fn total(bytes: &[u8]) -> u32
+    requires { ⌜ length (now bytes) ≤ 512 ⌝ }
+    ensures { λ r. ⌜ r ≡ sum (now (bytes .entry)) ⌝ }
+{
+    let mut all: u32 = 0;
+    for b in bytes {
+        all += *b as u32;
+    }
+    all
+}
+
 // The bytes from a place up to another are zero.
-pub fn zeros(bytes: &[u8], from: usize, to: usize) -> Result<(), BlockFault>
-    requires { ⌜ to ≤ length (now bytes) ⌝ ∗ ⌜ from ≤ to ⌝ }
+pub(crate) fn zeros(bytes: &[u8], from: usize, to: usize) -> Result<(), BlockFault>
+    requires { ⌜ length (now bytes) ≤ 512 ⌝ ∗ ⌜ to ≤ length (now bytes) ⌝ ∗ ⌜ from ≤ to ⌝ }
     ensures { λ r. ⌜ r ≡ zeros-in (now (bytes .entry)) from (to - from) ⌝ }
 {
+    if total(&bytes[from..to]) == 0 {
+        return Ok(());
+    }
     for i in from..to {
         if bytes[i] != 0 {
             return Err(BlockFault::NonZero(i));
@@ -85,7 +101,7 @@ pub fn zeros(bytes: &[u8], from: usize, to: usize) -> Result<(), BlockFault>
 }
 
 // The first numbers of 4 bytes from byte 24 are 1 to a million.
-pub fn check_numbers(bytes: &[u8], count: usize) -> Result<(), BlockFault>
+pub(crate) fn check_numbers(bytes: &[u8], count: usize) -> Result<(), BlockFault>
     requires { ⌜ 280 ≤ length (now bytes) ⌝ ∗ ⌜ count ≤ 64 ⌝ }
     ensures { λ r. ⌜ r ≡ numbers-fit (numbers-from (now (bytes .entry)) 24 count) 24 ⌝ }
 {

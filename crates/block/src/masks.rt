@@ -6,7 +6,7 @@ ghost use Rattle.block.specs.Mask.{bit, below, mask-of};
 use crate::names::Named;
 
 // Whether the mask names the pair.
-pub fn is_named(mask: u64, pair: u32) -> bool
+pub(crate) fn is_named(mask: u64, pair: u32) -> bool
     requires { ⌜ pair < 64 ⌝ }
     ensures { λ r. ⌜ r ≡ eqb (bit mask pair) 1 ⌝ }
 {
@@ -14,7 +14,7 @@ pub fn is_named(mask: u64, pair: u32) -> bool
 }
 
 // The place of a named pair among the numbers: the count of set bits below its own.
-pub fn place(mask: u64, pair: u32) -> u32
+pub(crate) fn place(mask: u64, pair: u32) -> u32
     requires { ⌜ pair < 64 ⌝ }
     ensures value { λ r. ⌜ r ≡ below mask pair ⌝ }
     ensures bound { λ r. ⌜ r ≤ pair ⌝ }
@@ -23,7 +23,7 @@ pub fn place(mask: u64, pair: u32) -> u32
 }
 
 // How many pairs the mask names.
-pub fn count(mask: u64) -> u32
+pub(crate) fn count(mask: u64) -> u32
     ensures value { λ r. ⌜ r ≡ below mask 64 ⌝ }
     ensures bound { λ r. ⌜ r ≤ 64 ⌝ }
 {
@@ -31,7 +31,7 @@ pub fn count(mask: u64) -> u32
 }
 
 // The mask of the pairs that have a number.
-pub fn mask_of(named: &Named) -> u64
+pub(crate) fn mask_of(named: &Named) -> u64
     ensures { λ r. ⌜ r ≡ mask-of (now (named .entry)) 64 ⌝ }
 {
     let mut mask: u64 = 0;

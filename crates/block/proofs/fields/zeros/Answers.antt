@@ -9,11 +9,16 @@ use Rattle.std.specs.declared.result.Result.the-variants.{Ok, Err}
 use Rattle.std.proofs.shelf.Tests.{eq-eqb, ne-eqb, cond-true, cond-false}
 use Rattle.block.specs.declared.faults.BlockFault.the-variants.{NonZero}
 use Rattle.block.specs.Reading.{zeros-in}
+use Rattle.block.proofs.Checks.{sum-passes}
 use Rattle.block.proofs.fields.zeros.Needs as need
 
 step : (xs : List ℕ) (i to : ℕ) → i < to → zeros-in xs i (to - i) ≡ cond (eqb (getD xs i 0) 0) (zeros-in xs (i + 1) (to - (i + 1))) (Err (NonZero i))
 unfolding zeros-in
 step xs i to h = let e : to - i ≡ suc (to - (i + 1)) = omega arith in ap (zeros-in xs i) e
+
+pub returns-then-total-eq0 : need.returns-then-total-eq0
+returns-then-total-eq0 c =
+    sym (sum-passes (c .args .bytes .now) (c .args .from) (c .args .to) (omega arith) (sym (c .total .ensures) ∙ c .if-total-eq0 .taken))
 
 pub returns-then-bytes-i-ne0 : need.returns-then-bytes-i-ne0
 returns-then-bytes-i-ne0 c =
