@@ -37,10 +37,10 @@ lay-fit n w piece at h k =
     let m = length piece in
     let lu = length-fit at w h in
     let whole : fit n w ≡ u ++ (zeros m ++ zeros (n - (at + m))) =
-      fit-fit at n w h (omega arith) ∙ ap (λ (ys : List ℕ). u ++ ys) (zeros-append m (n - (at + m)) (n - at) (omega arith)) in
+    fit-fit at n w h (omega arith) ∙ ap (λ (ys : List ℕ). u ++ ys) (zeros-append m (n - (at + m)) (n - at) (omega arith)) in
     let tail : drop (at + m) (fit n w) ≡ zeros (n - (at + m)) =
-      ap (drop (at + m)) (whole ∙ sym (append-assoc u (zeros m) (zeros (n - (at + m)))))
-      ∙ drop-at (u ++ zeros m) (zeros (n - (at + m))) (at + m) (length-append u (zeros m) ∙ ap₂ (λ (a b : ℕ). a + b) lu (length-zeros m)) in
+    ap (drop (at + m)) (whole ∙ sym (append-assoc u (zeros m) (zeros (n - (at + m)))))
+    ∙ drop-at (u ++ zeros m) (zeros (n - (at + m))) (at + m) (length-append u (zeros m) ∙ ap₂ (λ (a b : ℕ). a + b) lu (length-zeros m)) in
     let front : take at (fit n w) ≡ u = ap (take at) whole ∙ take-at u (zeros m ++ zeros (n - (at + m))) at lu in
     let long : n - length (u ++ piece) ≡ n - (at + m) = ap (λ (j : ℕ). n - j) (length-append u piece ∙ ap (λ (a : ℕ). a + m) lu) in
     ap₂ (λ (ys zs : List ℕ). ys ++ zs) (ap₂ (λ (ys zs : List ℕ). ys ++ zs) front (take-all m piece (omega arith))) tail

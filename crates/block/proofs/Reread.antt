@@ -60,7 +60,7 @@ passed xs p h =
         numbers-ok = hd .2;
         reserved = a .1;
         places = b .1;
-        rest = b .2
+        rest = b .2;
       },
       cc,
     )
@@ -90,11 +90,11 @@ module _ (xs : List ℕ) (b : Bytes xs) (s : Passed xs) where
       let long = s .long in
       let from-16 : big 8 (mask-of (named-of xs) 64) ≡ cut xs 16 8 = ap (big 8) mask-same ∙ big-wide 8 xs 16 b (omega arith) in
       let from-9 : zeros 7 ++ big 8 (mask-of (named-of xs) 64) ≡ cut xs 9 15 =
-        ap₂ (λ (ys zs : List ℕ). ys ++ zs) (zeros-cut 7 xs 9 (omega arith) (s .reserved)) from-16 ∙ cut-append 7 xs 9 8 (omega arith) in
+      ap₂ (λ (ys zs : List ℕ). ys ++ zs) (zeros-cut 7 xs 9 (omega arith) (s .reserved)) from-16 ∙ cut-append 7 xs 9 8 (omega arith) in
       let from-8 : length (parts-of xs .body) ∷ (zeros 7 ++ big 8 (mask-of (named-of xs) 64)) ≡ cut xs 8 16 =
-        ap₂ (λ (y : ℕ) (ys : List ℕ). y ∷ ys) body-length from-9 ∙ cut-cons xs 8 15 (omega arith) in
+      ap₂ (λ (y : ℕ) (ys : List ℕ). y ∷ ys) body-length from-9 ∙ cut-cons xs 8 15 (omega arith) in
       let from-4 : big 4 (wide 4 xs 4) ++ (length (parts-of xs .body) ∷ (zeros 7 ++ big 8 (mask-of (named-of xs) 64))) ≡ cut xs 4 20 =
-        ap₂ (λ (ys zs : List ℕ). ys ++ zs) (big-wide 4 xs 4 b (omega arith)) from-8 ∙ cut-append 4 xs 4 16 (omega arith) in
+      ap₂ (λ (ys zs : List ℕ). ys ++ zs) (big-wide 4 xs 4 b (omega arith)) from-8 ∙ cut-append 4 xs 4 16 (omega arith) in
       let from-3 = ap (λ (ys : List ℕ). getD xs 3 0 ∷ ys) from-4 ∙ cut-cons xs 3 20 (omega arith) in
       let from-2 = ap (λ (ys : List ℕ). getD xs 2 0 ∷ ys) from-3 ∙ cut-cons xs 2 21 (omega arith) in
       let from-1 = ap₂ (λ (y : ℕ) (ys : List ℕ). y ∷ ys) (sym (s .edition)) from-2 ∙ cut-cons xs 1 22 (omega arith) in
@@ -127,7 +127,7 @@ module _ (xs : List ℕ) (b : Bytes xs) (s : Passed xs) where
       let long = s .long in
       let whole = cut-append 508 xs 0 4 (omega arith) ∙ cut-whole xs 512 long in
       let sum : weighted (cut xs 0 508) 508 ≡ wide 4 xs 508 =
-        sym (weighted-left 508 (cut xs 0 508) (cut xs 508 4) (omega (arith, length-cut xs 0 508 (omega arith)))) ∙ ap (λ (ys : List ℕ). weighted ys 508) whole ∙ sym (s .check) in
+      sym (weighted-left 508 (cut xs 0 508) (cut xs 508 4) (omega (arith, length-cut xs 0 508 (omega arith)))) ∙ ap (λ (ys : List ℕ). weighted ys 508) whole ∙ sym (s .check) in
       ap (λ (ys : List ℕ). ys ++ big 4 (weighted ys 508)) front-cut
       ∙ ap (λ (n : ℕ). cut xs 0 508 ++ big 4 n) sum ∙ ap (λ (ys : List ℕ). cut xs 0 508 ++ ys) (big-wide 4 xs 508 b (omega arith)) ∙ whole
 

@@ -163,7 +163,7 @@ module _ (p : Parts) (t : Typed p) (fits : head-fits (p .name) (length (p .body)
       let len = length (p .body) in
       let e : 280 + getD (block-of p) 8 0 - 280 ≡ len = omega (arith, length-back) in
       let whole : block-of p ≡ upper p ++ (p .body ++ (zeros (508 - length (upper p ++ p .body)) ++ seal p)) =
-        regroup-body (upper p) (p .body) (zeros (508 - length (upper p ++ p .body))) (seal p) in
+      regroup-body (upper p) (p .body) (zeros (508 - length (upper p ++ p .body))) (seal p) in
       ap (λ (n : ℕ). take n (drop 280 (block-of p))) e
       ∙ ap (λ (xs : List ℕ). take len (drop 280 xs)) whole
       ∙ ap (take len) (drop-at (upper p) (p .body ++ (zeros (508 - length (upper p ++ p .body)) ++ seal p)) 280 length-upper)
@@ -180,7 +180,7 @@ module _ (p : Parts) (t : Typed p) (fits : head-fits (p .name) (length (p .body)
       let laid : numbers ns ≡ joined (big 4) before ++ (big 4 y ++ joined (big 4) later) = ap (joined (big 4)) around ∙ joined-append before (y ∷ later) in
       let bound = numbers-was before y later 24 (ap (λ (ys : List ℕ). numbers-fit ys 24) (sym around) ∙ nf) in
       let place : length (lead p ++ joined (big 4) before) ≡ 24 + 4 * below (mask-of ns 64) k =
-        length-append (lead p) (joined (big 4) before) ∙ ap (λ (n : ℕ). 24 + n) (length-joined before ∙ ap (λ (n : ℕ). 4 * n) (sym (below-present ns 64 k (omega (arith, t .table)) (omega arith)))) in
+      length-append (lead p) (joined (big 4) before) ∙ ap (λ (n : ℕ). 24 + n) (length-joined before ∙ ap (λ (n : ℕ). 4 * n) (sym (below-present ns 64 k (omega (arith, t .table)) (omega arith)))) in
       let at = 24 + 4 * below (mask-of ns 64) k in
       ap (λ (xs : List ℕ). wide 4 xs at)
       (split p ∙ ap (λ (ys : List ℕ). lead p ++ (ys ++ after p)) laid ∙ regroup-number (lead p) (joined (big 4) before) (big 4 y) (joined (big 4) later) (after p))

@@ -28,7 +28,14 @@ pub(crate) fn mask_at(bytes: &[u8]) -> u64
     ensures { λ r. ⌜ r ≡ wide 8 (now (bytes .entry)) 16 ⌝ }
 {
     u64::from_be_bytes([
-        bytes[16], bytes[17], bytes[18], bytes[19], bytes[20], bytes[21], bytes[22], bytes[23],
+        bytes[16],
+        bytes[17],
+        bytes[18],
+        bytes[19],
+        bytes[20],
+        bytes[21],
+        bytes[22],
+        bytes[23],
     ])
 }
 

@@ -20,3 +20,6 @@ pub use names::NameDisplay;
 pub use names::NamePartialEq;
 pub use names::Named;
 pub use writer::write;
+
+#[cfg(test)]
+mod tests;

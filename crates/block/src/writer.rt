@@ -81,8 +81,30 @@ fn head_of(name: Name, length: u8, mask: u64) -> [u8; 24]
     let n = name.number.to_be_bytes();
     let m = mask.to_be_bytes();
     [
-        1, 1, name.station, name.channel, n[0], n[1], n[2], n[3], length, 0, 0, 0, 0, 0, 0, 0, m[0], m[1],
-        m[2], m[3], m[4], m[5], m[6], m[7],
+        1,
+        1,
+        name.station,
+        name.channel,
+        n[0],
+        n[1],
+        n[2],
+        n[3],
+        length,
+        0,
+        0,
+        0,
+        0,
+        0,
+        0,
+        0,
+        m[0],
+        m[1],
+        m[2],
+        m[3],
+        m[4],
+        m[5],
+        m[6],
+        m[7],
     ]
 }
 
@@ -93,7 +115,11 @@ fn lay_numbers(memory: &mut [u8], named: &Named, mask: u64)
 {
     for k in 0..64u32 {
         if let Some(number) = named[k as usize] {
-            lay(memory, 24 + 4 * place(mask, k) as usize, &number.to_be_bytes());
+            lay(
+                memory,
+                24 + 4 * place(mask, k) as usize,
+                &number.to_be_bytes(),
+            );
         }
     }
 }

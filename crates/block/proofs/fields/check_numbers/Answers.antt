@@ -20,7 +20,7 @@ returns-in-Break-number-fits c =
     let f = c .in-Break-number-fits .field-0 .0 in
     let step = numbers-step (c .args .bytes .now) at (c .args .count - c .loop-i .i) (at + 4) (c .args .count - c .loop-i .i - 1) refl (omega arith) in
     let off : in-range 1 1000000 (wide 4 (c .args .bytes .now) at) at ≡ Err f =
-      ap (λ (y : ℕ). in-range 1 1000000 y at) (sym (c .number-at .ensures)) ∙ sym (c .in-Break-number-fits .ensures tt) in
+    ap (λ (y : ℕ). in-range 1 1000000 y at) (sym (c .number-at .ensures)) ∙ sym (c .in-Break-number-fits .ensures tt) in
     let stops = ap (λ (r : Checked). bind r (λ _. numbers-fit (numbers-from (c .args .bytes .now) (at + 4) (c .args .count - c .loop-i .i - 1)) (at + 4))) off in
     let whole = c .loop-i .inv in
     rw (p .1, p .2) (cc)
@@ -32,7 +32,7 @@ loop-i-again c =
     let left = c .args .count - (c .loop-i .i + 1) in
     let step = numbers-step (c .args .bytes .now) at (c .args .count - c .loop-i .i) next left (omega arith) (omega arith) in
     let on : in-range 1 1000000 (wide 4 (c .args .bytes .now) at) at ≡ Ok tt =
-      ap (λ (y : ℕ). in-range 1 1000000 y at) (sym (c .number-at .ensures)) ∙ sym (c .in-Continue-number-fits .ensures tt) in
+    ap (λ (y : ℕ). in-range 1 1000000 y at) (sym (c .number-at .ensures)) ∙ sym (c .in-Continue-number-fits .ensures tt) in
     let goes = ap (λ (r : Checked). bind r (λ _. numbers-fit (numbers-from (c .args .bytes .now) next left) next)) on in
     sym goes ∙ sym step ∙ c .loop-i .inv
 

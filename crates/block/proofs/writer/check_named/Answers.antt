@@ -26,7 +26,7 @@ returns-in-Break-number-fits c =
     let f = c .in-Break-number-fits .field-0 .0 in
     let step = left-some ns (c .loop-k .k) (c .in-Some .number) at (omega (arith, c .told-named)) (c .in-Some .is) in
     let off : in-range 1 1000000 (c .in-Some .number) at ≡ Err f =
-      ap (λ (j : ℕ). in-range 1 1000000 (c .in-Some .number) (24 + 4 * j)) (sym (c .place .ensures .value)) ∙ sym (c .in-Break-number-fits .ensures tt) in
+    ap (λ (j : ℕ). in-range 1 1000000 (c .in-Some .number) (24 + 4 * j)) (sym (c .place .ensures .value)) ∙ sym (c .in-Break-number-fits .ensures tt) in
     let stops = ap (λ (r : Checked). bind r (λ _. numbers-fit (present (drop (c .loop-k .k + 1) ns)) (at + 4))) off in
     let whole = c .loop-k .inv in
     rw (p .1, p .2) (cc)
@@ -40,7 +40,7 @@ loop-k-again c =
       | in-Some·in-Continue-number-fits w ↦
           (let step = left-some ns k (w .in-Some .number) at (omega (arith, c .told-named)) (w .in-Some .is) in
           let on : in-range 1 1000000 (w .in-Some .number) at ≡ Ok tt =
-            ap (λ (j : ℕ). in-range 1 1000000 (w .in-Some .number) (24 + 4 * j)) (sym (w .place .ensures .value)) ∙ sym (w .in-Continue-number-fits .ensures tt) in
+          ap (λ (j : ℕ). in-range 1 1000000 (w .in-Some .number) (24 + 4 * j)) (sym (w .place .ensures .value)) ∙ sym (w .in-Continue-number-fits .ensures tt) in
           let goes = ap (λ (r : Checked). bind r (λ _. numbers-fit (present (drop (k + 1) ns)) (at + 4))) on in
           let next : 24 + 4 * below (c .args .mask) (k + 1) ≡ at + 4 = omega (arith, below-some ns (c .args .mask) k (w .in-Some .number) (c .pre) (omega arith) (w .in-Some .is)) in
           ap (numbers-fit (present (drop (k + 1) ns))) next ∙ sym goes ∙ sym step ∙ c .loop-k .inv)

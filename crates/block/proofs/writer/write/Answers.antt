@@ -30,5 +30,5 @@ returns c =
     let same : writing 512 p ≡ Ok (block-of p) = bind-ok (head-fits (p .name) (length (p .body))) _ tt fits ∙ bind-ok (numbers-fit (present (p .named)) 24) _ tt nums in
     record {
       value = ap (λ (n : ℕ). writing n p) (c .if-memory-ne512 .left) ∙ same ∙ ap Ok (sym whole);
-      back = ap reading whole ∙ block-reads p t fits nums
+      back = ap reading whole ∙ block-reads p t fits nums;
     }

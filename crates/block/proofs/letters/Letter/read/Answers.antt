@@ -14,10 +14,10 @@ returns c =
     let xs = c .args .bytes .now in
     let same = c .copy-from-slice .ensures .after in
     let reads : reading xs ≡ Ok (parts-of xs) =
-      bind-ok (framed xs) _ tt (sym (c .in-Continue-check-frame .ensures tt .value))
-      ∙ bind-ok (ranged xs) _ tt (sym (c .in-Continue-check-ranges .ensures tt .value))
-      ∙ bind-ok (cleared xs) _ tt (sym (c .in-Continue-check-zeros .ensures tt)) in
+    bind-ok (framed xs) _ tt (sym (c .in-Continue-check-frame .ensures tt .value))
+    ∙ bind-ok (ranged xs) _ tt (sym (c .in-Continue-check-ranges .ensures tt .value))
+    ∙ bind-ok (cleared xs) _ tt (sym (c .in-Continue-check-zeros .ensures tt)) in
     record {
       value = (same, reads ∙ ap (λ (ys : List ℕ). Ok (parts-of ys)) (sym same));
-      again = ap (λ (ys : List ℕ). writing 512 (parts-of ys)) same ∙ writes-back (parts-of xs) xs (λ i. c .typed .bytes i .fits) reads
+      again = ap (λ (ys : List ℕ). writing 512 (parts-of ys)) same ∙ writes-back (parts-of xs) xs (λ i. c .typed .bytes i .fits) reads;
     }
