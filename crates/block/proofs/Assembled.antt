@@ -16,23 +16,16 @@ use Rattle.block.specs.Writing.{head, numbers, front, block-of}
 use Rattle.block.specs.Laws.{Typed}
 use Rattle.block.proofs.Wide.{length-big}
 use Rattle.block.proofs.Checks.{head-was}
-use Rattle.block.proofs.Laying.{fit-whole, fit-fit, lay-fit}
+use Rattle.block.proofs.Laying.{fit-whole, fit-fit, laid-past}
 use Rattle.block.proofs.Sums.{weighted-left}
 use Rattle.block.proofs.Written.{lead, low, upper, length-low, few, length-upper, length-filled, length-front}
-
--- the head, laid into cleared memory
-pub head-laid : (m ps l : List ℕ) → m ≡ fit 512 [] → ps ≡ l → length l ≡ 24 → paste m 0 ps (length ps) ≡ fit 512 l
-head-laid m ps l em ep h =
-    ap₂ (λ (xs ys : List ℕ). paste xs 0 ys (length ys)) em ep ∙ lay-fit 512 [] l 0 (omega arith) (omega arith)
-    ∙ ap (λ (xs : List ℕ). fit 512 (xs ++ l)) (fit-whole 0 [] refl)
 
 module _ (p : Parts) (t : Typed p) (fits : head-fits (p .name) (length (p .body)) ≡ Ok tt) where
   -- the body, laid after the head and the named numbers
   pub body-laid : (m : List ℕ) → m ≡ fit 512 (low p) → paste m 280 (p .body) (length (p .body)) ≡ fit 512 (upper p ++ p .body)
   body-laid m e =
       let h = head-was (p .name) (length (p .body)) fits in
-      ap (λ (xs : List ℕ). paste xs 280 (p .body) (length (p .body))) e
-      ∙ lay-fit 512 (low p) (p .body) 280 (omega (arith, length-low p t fits, few p t fits)) (omega (arith, h .3))
+      laid-past m (p .body) (low p) (p .body) 280 e refl (omega (arith, length-low p t fits, few p t fits)) (omega (arith, h .3))
 
   -- the check of what is laid so far
   pub check-laid : (m : List ℕ) → m ≡ fit 512 (upper p ++ p .body) → weighted m 508 ≡ weighted (front p) 508
@@ -48,6 +41,5 @@ module _ (p : Parts) (t : Typed p) (fits : head-fits (p .name) (length (p .body)
   block-laid m ps e d =
       let h = head-was (p .name) (length (p .body)) fits in
       let sum = weighted (front p) 508 in
-      ap₂ (λ (xs ys : List ℕ). paste xs 508 ys (length ys)) e d
-      ∙ lay-fit 512 (upper p ++ p .body) (big 4 sum) 508 (omega (arith, h .3, length-filled p t fits)) (omega (arith, length-big 4 sum))
+      laid-past m ps (upper p ++ p .body) (big 4 sum) 508 e d (omega (arith, h .3, length-filled p t fits)) (omega (arith, length-big 4 sum))
       ∙ fit-whole 512 (front p ++ big 4 sum) (length-append (front p) (big 4 sum) ∙ omega (arith, length-front p t fits, length-big 4 sum))

@@ -1,4 +1,4 @@
--- A piece copied into memory that is zero from there on, and the bytes of a number as the machine has them.
+-- Pieces copied into memory that is zero from there on, and the bytes of a number as the machine has them.
 use Prim.Native.Nat.{ℕ, _+_, _-_, _*_, _/_, _%_, _≤_}
 use mathlib.Core.Path.{_≡_, refl, sym, ap, ap₂, _∙_}
 use mathlib.Core.List.{List, [], _∷_, _++_}
@@ -46,6 +46,18 @@ lay-fit n w piece at h k =
     ap₂ (λ (ys zs : List ℕ). ys ++ zs) (ap₂ (λ (ys zs : List ℕ). ys ++ zs) front (take-all m piece (omega arith))) tail
     ∙ ap (λ (j : ℕ). (u ++ piece) ++ zeros j) (sym long)
 
+-- so in memory of 512 bytes, with what is known of the memory and of the piece
+pub laid-past : (m ps w piece : List ℕ) (at : ℕ) → m ≡ fit 512 w → ps ≡ piece → length w ≤ at → at + length piece ≤ 512
+    → paste m at ps (length ps) ≡ fit 512 (fit at w ++ piece)
+laid-past m ps w piece at em ep h k = ap₂ (λ (xs ys : List ℕ). paste xs at ys (length ys)) em ep ∙ lay-fit 512 w piece at h k
+
+-- and right after what was laid there before
+pub laid-next : (m ps w piece : List ℕ) (at : ℕ) → m ≡ fit 512 w → ps ≡ piece → length w ≡ at → at + length piece ≤ 512
+    → paste m at ps (length ps) ≡ fit 512 (w ++ piece)
+laid-next m ps w piece at em ep h k =
+    laid-past m ps w piece at em ep (omega arith) k ∙ ap (λ (xs : List ℕ). fit 512 (xs ++ piece)) (fit-whole at w h)
+
+-- the bytes of a number as the machine has them
 pub big-4 : (x : ℕ) → (x / 16777216 % 256) ∷ (x / 65536 % 256) ∷ (x / 256 % 256) ∷ (x % 256) ∷ [] ≡ big 4 x
 big-4 x = search needs
 

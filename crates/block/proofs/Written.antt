@@ -77,6 +77,10 @@ pub split : (p : Parts) → block-of p ≡ lead p ++ (numbers (p .named) ++ afte
 unfolding front
 split p = regroup (lead p) (numbers (p .named)) (zeros (280 - length (low p))) (p .body) (zeros (508 - length (upper p ++ p .body))) (seal p)
 
+pub length-lead : (p : Parts) → length (lead p) ≡ 24
+unfolding zeros
+length-lead p = refl
+
 -- lengths
 module _ (p : Parts) (t : Typed p) (fits : head-fits (p .name) (length (p .body)) ≡ Ok tt) where
   pub few : length (present (p .named)) ≤ 64
@@ -86,7 +90,7 @@ module _ (p : Parts) (t : Typed p) (fits : head-fits (p .name) (length (p .body)
       omega (arith, b, e, below-le (mask-of (p .named) 64) 64)
 
   pub length-low : length (low p) ≡ 24 + 4 * length (present (p .named))
-  length-low = length-append (lead p) (numbers (p .named)) ∙ ap (λ (k : ℕ). 24 + k) (length-joined (present (p .named)))
+  length-low = length-append (lead p) (numbers (p .named)) ∙ ap₂ (λ (a b : ℕ). a + b) (length-lead p) (length-joined (present (p .named)))
 
   pub length-upper : length (upper p) ≡ 280
   length-upper = length-fit 280 (low p) (omega (arith, length-low, few))
@@ -107,6 +111,7 @@ module _ (p : Parts) (t : Typed p) (fits : head-fits (p .name) (length (p .body)
   bytes-numbers (y ∷ ys) i = bytes-append (big 4 y) (joined (big 4) ys) (bytes-big 4 y) (bytes-numbers ys) i
 
   bytes-lead : Bytes (lead p)
+  unfolding zeros
   bytes-lead =
       let h = head-was (p .name) (length (p .body)) fits in
       let z : 0 < 256 = omega arith in
@@ -146,9 +151,10 @@ module _ (p : Parts) (t : Typed p) (fits : head-fits (p .name) (length (p .body)
       let h = head-was (p .name) (length (p .body)) fits in
       ap (λ (xs : List ℕ). wide 4 xs 4) (split p)
       ∙ wide-at 4 (p .name .number) (1 ∷ 1 ∷ p .name .station ∷ p .name .channel ∷ [])
-      ((length (p .body) ∷ 0 ∷ 0 ∷ 0 ∷ 0 ∷ 0 ∷ 0 ∷ 0 ∷ big 8 (mask-of (p .named) 64)) ++ (numbers (p .named) ++ after p)) 4 refl (omega (arith, h .2))
+      ((length (p .body) ∷ (zeros 7 ++ big 8 (mask-of (p .named) 64))) ++ (numbers (p .named) ++ after p)) 4 refl (omega (arith, h .2))
 
   mask-back : wide 8 (block-of p) 16 ≡ mask-of (p .named) 64
+  unfolding zeros
   mask-back =
       ap (λ (xs : List ℕ). wide 8 xs 16) (split p)
       ∙ wide-at 8 (mask-of (p .named) 64) (1 ∷ 1 ∷ p .name .station ∷ p .name .channel ∷ (big 4 (p .name .number) ++ (length (p .body) ∷ 0 ∷ 0 ∷ 0 ∷ 0 ∷ 0 ∷ 0 ∷ 0 ∷ [])))
@@ -180,7 +186,8 @@ module _ (p : Parts) (t : Typed p) (fits : head-fits (p .name) (length (p .body)
       let laid : numbers ns ≡ joined (big 4) before ++ (big 4 y ++ joined (big 4) later) = ap (joined (big 4)) around ∙ joined-append before (y ∷ later) in
       let bound = numbers-was before y later 24 (ap (λ (ys : List ℕ). numbers-fit ys 24) (sym around) ∙ nf) in
       let place : length (lead p ++ joined (big 4) before) ≡ 24 + 4 * below (mask-of ns 64) k =
-      length-append (lead p) (joined (big 4) before) ∙ ap (λ (n : ℕ). 24 + n) (length-joined before ∙ ap (λ (n : ℕ). 4 * n) (sym (below-present ns 64 k (omega (arith, t .table)) (omega arith)))) in
+      length-append (lead p) (joined (big 4) before)
+      ∙ ap₂ (λ (a b : ℕ). a + b) (length-lead p) (length-joined before ∙ ap (λ (n : ℕ). 4 * n) (sym (below-present ns 64 k (omega (arith, t .table)) (omega arith)))) in
       let at = 24 + 4 * below (mask-of ns 64) k in
       ap (λ (xs : List ℕ). wide 4 xs at)
       (split p ∙ ap (λ (ys : List ℕ). lead p ++ (ys ++ after p)) laid ∙ regroup-number (lead p) (joined (big 4) before) (big 4 y) (joined (big 4) later) (after p))
@@ -224,7 +231,7 @@ module _ (p : Parts) (t : Typed p) (fits : head-fits (p .name) (length (p .body)
       ∙ ap (λ (ns : List (Option ℕ)). length (present ns)) (take-all 64 (p .named) (omega (arith, t .table)))
 
   reserved-back : zeros-in (block-of p) 9 7 ≡ Ok tt
-  unfolding zeros-in
+  unfolding zeros zeros-in
   reserved-back = ap (λ (xs : List ℕ). zeros-in xs 9 7) (split p)
 
   in-front : (i : ℕ) → i < 508 → getD (block-of p) i 0 ≡ getD (front p) i 0

@@ -23,9 +23,9 @@ use Rattle.block.specs.Mask.{mask-of, present}
 use Rattle.block.specs.Parts.{Parts}
 use Rattle.block.specs.Reading.{Checked, bind, head-fits, numbers-fit}
 
--- kind 1, edition 1, poster, channel, number in 4 bytes, length of the body, seven zeros, mask in 8 bytes
+-- kind 1, edition 1, poster, channel, number in 4 bytes, length of the body, with zeros up to 16 bytes; then the mask in 8 bytes
 abbrev pub head : Name → ℕ → ℕ → List ℕ
-head name len mask = 1 ∷ (1 ∷ (name .station ∷ (name .channel ∷ (big 4 (name .number) ++ (len ∷ (0 ∷ (0 ∷ (0 ∷ (0 ∷ (0 ∷ (0 ∷ (0 ∷ big 8 mask))))))))))))
+head name len mask = fit 16 (1 ∷ (1 ∷ (name .station ∷ (name .channel ∷ (big 4 (name .number) ++ len ∷ []))))) ++ big 8 mask
 
 -- the named numbers in 4 bytes each, by ascending pair
 abbrev pub numbers : List (Option ℕ) → List ℕ

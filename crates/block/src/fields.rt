@@ -9,6 +9,10 @@ ghost use Rattle.block.specs.Reading.{in-range, head-fits, numbers-fit, number
 use crate::faults::BlockFault;
 use crate::names::Name;
 
+// What bytes 0 and 1 of a block say.
+pub(crate) const KIND: u8 = 1;
+
+pub(crate) const EDITION: u8 = 1;
 // The largest number of a letter on its channel.
 pub(crate) const LAST_NUMBER: u32 = 1_000_000;
 // The longest body, in bytes.

@@ -12,6 +12,8 @@ ghost use Rattle.block.specs.Parts.{parts-of};
 ghost use Rattle.block.specs.Reading.{framed, ranged, cleared, reading};
 ghost use Rattle.block.specs.Writing.{writing};
 use crate::faults::BlockFault;
+use crate::fields::EDITION;
+use crate::fields::KIND;
 use crate::fields::check_numbers;
 use crate::fields::check_of;
 use crate::fields::head_fits;
@@ -82,13 +84,6 @@ impl Letter {
     {
         &self.block[280..280 + self.block[8] as usize]
     }
-
-    // The block that the letter was read from.
-    pub fn block(&self) -> &Block
-        ensures { λ r. ⌜ now r ≡ now (self .entry) .block ⌝ }
-    {
-        &self.block
-    }
 }
 
 // The name in bytes 2 to 7.
@@ -114,10 +109,10 @@ fn check_frame(bytes: &[u8]) -> Result<(), BlockFault>
     if number_at(bytes, 508) != check_of(bytes) {
         return Err(BlockFault::Check);
     }
-    if bytes[0] != 1 {
+    if bytes[0] != KIND {
         return Err(BlockFault::Kind(0));
     }
-    if bytes[1] != 1 {
+    if bytes[1] != EDITION {
         return Err(BlockFault::Kind(1));
     }
     Ok(())

@@ -128,7 +128,10 @@ fn writing_refuses() -> Result<(), Fail> {
     let mut block: Block = [5; 512];
     check_eq(told(write(name, &named, &[], &mut block)), (23, 28))?;
     check(block[0] == 5)?;
-    check_eq(told(write(name, &named, &body, &mut block[0..511])), (20, 0))
+    check_eq(
+        told(write(name, &named, &body, &mut block[0..511])),
+        (20, 0),
+    )
 }
 
 #[test]

@@ -13,6 +13,8 @@ ghost use Rattle.block.specs.Parts.{parts};
 ghost use Rattle.block.specs.Reading.{numbers-fit, reading};
 ghost use Rattle.block.specs.Writing.{head, numbers, writing};
 use crate::faults::BlockFault;
+use crate::fields::EDITION;
+use crate::fields::KIND;
 use crate::fields::check_of;
 use crate::fields::head_fits;
 use crate::fields::number_fits;
@@ -35,7 +37,7 @@ pub fn write(name: Name, named: &Named, body: &[u8], memory: &mut [u8]) -> Resul
     let mask = mask_of(named);
     check_named(named, mask)?;
     clear(memory);
-    lay(memory, 0, &head_of(name, body.len() as u8, mask));
+    lay_head(memory, name, body.len() as u8, mask);
     lay_numbers(memory, named, mask);
     lay(memory, 280, body);
     let check = check_of(memory);
@@ -74,38 +76,15 @@ fn lay(memory: &mut [u8], at: usize, piece: &[u8])
     memory[at..at + piece.len()].copy_from_slice(piece);
 }
 
-// The first 24 bytes: kind, edition, poster, channel, number, length of the body, zeros, mask.
-fn head_of(name: Name, length: u8, mask: u64) -> [u8; 24]
-    ensures { λ r. ⌜ r ≡ head name length mask ⌝ }
+// Copies the first 24 bytes into cleared memory: kind, edition, poster, channel, number, length of the body, mask.
+fn lay_head(memory: &mut [u8], name: Name, len: u8, mask: u64)
+    requires { ⌜ length (now memory) ≡ 512 ⌝ }
+    ensures { λ _. ⌜ (now (memory .entry) ≡ fit 512 [] → now (memory .exit) ≡ fit 512 (head name len mask)) ⌝ }
 {
-    let n = name.number.to_be_bytes();
-    let m = mask.to_be_bytes();
-    [
-        1,
-        1,
-        name.station,
-        name.channel,
-        n[0],
-        n[1],
-        n[2],
-        n[3],
-        length,
-        0,
-        0,
-        0,
-        0,
-        0,
-        0,
-        0,
-        m[0],
-        m[1],
-        m[2],
-        m[3],
-        m[4],
-        m[5],
-        m[6],
-        m[7],
-    ]
+    lay(memory, 0, &[KIND, EDITION, name.station, name.channel]);
+    lay(memory, 4, &name.number.to_be_bytes());
+    lay(memory, 8, &[len]);
+    lay(memory, 16, &mask.to_be_bytes());
 }
 
 // Copies each number of the table to the place of its pair, after the 24 bytes of the head.

@@ -3,22 +3,15 @@ use mathlib.Core.Path.{_≡_, refl, sym, ap, ap₂, _∙_}
 use mathlib.Core.List.{List, _++_}
 use native.Mathlib.Omega.{arith}
 use lib.ListN.{length, take}
-use lib.Seq.{paste}
 use Rattle.std.specs.declared.option.Option.{Option}
 use Rattle.std.proofs.shelf.Lists.{append-assoc, length-append, take-all}
 use Rattle.block.specs.Numbers.{big, fit}
 use Rattle.block.specs.Writing.{numbers}
 use Rattle.block.proofs.Wide.{length-big}
 use Rattle.block.proofs.Tables.{numbers-some, numbers-none, length-numbers}
-use Rattle.block.proofs.Laying.{big-4, fit-whole, lay-fit}
+use Rattle.block.proofs.Laying.{big-4, laid-next}
 use Rattle.block.proofs.writer.lay_numbers.Needs as need
 use Rattle.block.proofs.writer.lay_numbers.Needs.{in-Some, in-rest}
-
--- a number laid right after the bytes before it
-next : (w js : List ℕ) (y at : ℕ) → length (w ++ js) ≡ at → at + 4 ≤ 512 → paste (fit 512 (w ++ js)) at (big 4 y) (length (big 4 y)) ≡ fit 512 (w ++ (js ++ big 4 y))
-next w js y at e h =
-    lay-fit 512 (w ++ js) (big 4 y) at (omega arith) (omega (arith, length-big 4 y))
-    ∙ ap (fit 512) (ap (λ (ys : List ℕ). ys ++ big 4 y) (fit-whole at (w ++ js) e) ∙ append-assoc w js (big 4 y))
 
 pub loop-k-again : need.loop-k-again
 loop-k-again c =
@@ -29,9 +22,9 @@ loop-k-again c =
           let y = x .in-Some .number in
           let at = 24 + 4 * x .place .result in
           let long : length (w ++ numbers (take k ns)) ≡ at = length-append w (numbers (take k ns)) ∙ omega (arith, l, length-numbers ns (c .args .mask) k (c .told-named) (c .pre .1) (omega arith), x .place .ensures .value) in
-          let bytes = x .to-be-bytes .ensures ∙ big-4 y in
-          x .memory-is ∙ x .lay .ensures ∙ ap₂ (λ (ms ps : List ℕ). paste ms at ps (length ps)) (c .loop-k .inv w l e) bytes
-          ∙ next w (numbers (take k ns)) y at long (omega (arith, x .place .ensures .bound))
+          x .memory-is ∙ x .lay .ensures
+          ∙ laid-next _ _ (w ++ numbers (take k ns)) (big 4 y) at (c .loop-k .inv w l e) (x .to-be-bytes .ensures ∙ big-4 y) long (omega (arith, x .place .ensures .bound, length-big 4 y))
+          ∙ ap (fit 512) (append-assoc w (numbers (take k ns)) (big 4 y))
           ∙ ap (λ (ys : List ℕ). fit 512 (w ++ ys)) (sym (numbers-some ns k y (omega (arith, c .told-named)) (x .in-Some .is)))
       | in-rest x ↦ λ w l e. x .memory-is ∙ c .loop-k .inv w l e ∙ ap (λ (ys : List ℕ). fit 512 (w ++ ys)) (sym (numbers-none ns k (omega (arith, c .told-named)) (x .in-rest .is)))
     ]
