@@ -84,6 +84,13 @@ impl Letter {
     {
         &self.block[280..280 + self.block[8] as usize]
     }
+
+    // The block that the letter was read from.
+    pub fn block(&self) -> &Block
+        ensures { λ r. ⌜ now r ≡ now (self .entry) .block ⌝ }
+    {
+        &self.block
+    }
 }
 
 // The name in bytes 2 to 7.
