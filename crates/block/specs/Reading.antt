@@ -1,10 +1,12 @@
 -- What reading a block answers: the letter's parts, or the first fault in the order of checks.
+--   Checked       what a check answers
 --   bind          go on with an answer, or hand its fault on
 --   in-range      a field's value within its bounds
 --   head-fits     poster, channel, number and length of the body within theirs
 --   numbers-fit   the first of a list of named numbers that is out of range
 --   numbers-from  some numbers of 4 bytes, one after the other
 --   zeros-in      the first of some bytes that is not zero
+--   count-in      how many pairs a block names
 --   framed        length, check, kind and edition
 --   ranged        every field within its range
 --   cleared       every byte that should be zero
@@ -69,7 +71,7 @@ framed xs =
     (Err Check))
     (Err Length)
 
--- how many numbers the mask names, and the byte after the last of them
+-- how many pairs the mask names; the byte after the last of their numbers is 24 + 4 times that
 abbrev pub count-in : List ℕ → ℕ
 count-in xs = below (wide 8 xs 16) 64
 

@@ -9,9 +9,9 @@ ghost use Rattle.block.specs.Reading.{in-range, head-fits, numbers-fit, number
 use crate::faults::BlockFault;
 use crate::names::Name;
 
-// What bytes 0 and 1 of a block say.
+// The kind of every block, in byte 0.
 pub(crate) const KIND: u8 = 1;
-
+// The edition of every block, in byte 1.
 pub(crate) const EDITION: u8 = 1;
 // The largest number of a letter on its channel.
 pub(crate) const LAST_NUMBER: u32 = 1_000_000;
@@ -74,13 +74,13 @@ pub(crate) fn number_fits(number: u32, at: usize) -> Result<(), BlockFault>
 }
 
 // Poster, channel, number and length of the body are in their ranges.
-pub(crate) fn head_fits(name: Name, length: usize) -> Result<(), BlockFault>
-    ensures { λ r. ⌜ r ≡ head-fits name length ⌝ }
+pub(crate) fn head_fits(name: Name, len: usize) -> Result<(), BlockFault>
+    ensures { λ r. ⌜ r ≡ head-fits name len ⌝ }
 {
     in_range(0, 7, name.station as usize, 2)?;
     in_range(0, 7, name.channel as usize, 3)?;
     number_fits(name.number, 4)?;
-    in_range(0, LONGEST_BODY, length, 8)
+    in_range(0, LONGEST_BODY, len, 8)
 }
 
 // The sum of some bytes, to see at once that all are zero.

@@ -7,7 +7,7 @@ ghost use lib.Seq.{paste};
 ghost use Rattle.std.specs.Results.{Cases};
 ghost use Rattle.std.specs.Vec.{made};
 ghost use Rattle.std.specs.declared.result.Result.the-variants.{Ok, Err};
-ghost use Rattle.block.specs.Numbers.{zeros, fit};
+ghost use Rattle.block.specs.Numbers.{fit};
 ghost use Rattle.block.specs.Mask.{mask-of, present};
 ghost use Rattle.block.specs.Parts.{parts};
 ghost use Rattle.block.specs.Reading.{numbers-fit, reading};
