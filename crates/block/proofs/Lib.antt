@@ -1,5 +1,4 @@
 pub mod Places
-pub mod Terms
 pub mod Wide
 pub mod Cuts
 pub mod Tables

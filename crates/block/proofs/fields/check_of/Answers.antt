@@ -4,7 +4,7 @@ use native.Mathlib.Numerals.{add-one}
 use mathlib.Core.Path.{refl}
 use lib.ListN.{getD}
 use Rattle.block.specs.Sum.{weighted}
-use Rattle.block.proofs.Terms.{term-le}
+use Rattle.block.proofs.Sums.{term-le}
 use Rattle.block.proofs.fields.check_of.Needs as need
 
 pub add-sum-in-loop-i : need.add-sum-in-loop-i
