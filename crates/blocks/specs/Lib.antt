@@ -1,0 +1,6 @@
+pub mod Lines
+pub mod Words
+pub mod Reasons
+pub mod Hex
+pub mod Commands
+pub mod Answers
