@@ -1,21 +1,27 @@
 -- What the words of a command write, and what a line asks for.
 --   long-number   a number of 32 bits, or why there is none
 --   short-number  a number of 8 bits, or why there is none
---   before-quote  how many bytes come before the first double quote
---   text-in       a text that a double quote ends
---   body-in       the body that a word writes
+--   octal         whether a byte is a digit below 8
+--   starts-name   whether a word begins as a name does
 --   name-in       the name that a word writes
 --   pair-in       the pair of a name
+--   before-quote  how many bytes come before the first double quote
+--   text-in       a text that a double quote ends
+--   body-fault    why digits are no body
+--   hex-body      the body that digits write
+--   body-in       the body that a word writes
 --   contents      the bytes in a buffer
 --   read-as       the same of an answer
+--   Entered       that some words of a text fill a table of names
+--   All-named     that all words of a text do
 --   Drafted       that the words of a text write a letter
 --   Asked         that a line asks for a command
-use Prim.Native.Nat.{ℕ, _+_, _-_, _*_, _≤_}
+use Prim.Native.Nat.{ℕ, zero, suc, _+_, _-_, _*_, _≤_}
 use mathlib.Core.Bool.{Bool, cond, _&&_}
 use mathlib.Core.List.{List, [], _∷_}
 use mathlib.Core.Path.{_≡_}
 use lib.Dec.{eqb, leb, ltb}
-use lib.ListN.{length, getD, take}
+use lib.ListN.{length, getD, set, take, replicate}
 use Rattle.std.specs.Holes.{between}
 use Rattle.std.specs.declared.option.Option.{Option}
 use Rattle.std.specs.declared.option.Option.the-variants.{Some, None}
@@ -100,12 +106,25 @@ abbrev pub read-as : Result Bytes Misread → Result (List ℕ) Misread
 read-as (Ok bytes) = Ok (contents bytes)
 read-as (Err reason) = Err reason
 
--- station, channel, number and body of a letter are what the first four words of a text write
+-- the n words of a text enter their names into a table, each at a pair that has none yet, and so fill it
+unfoldable pub Entered : ℕ → List ℕ → List (Option ℕ) → List (Option ℕ) → Type 0
+Entered zero text named all = (length (word-of text) ≡ 0) × (named ≡ all)
+Entered (suc n) text named all =
+    (name : Name) × (name-in (word-of text) ≡ Some name) × (getD named (pair-in name) None ≡ None)
+    × Entered n (after-word text) (set named (pair-in name) (Some (name .number))) all
+
+-- all words of a text are names, of pairs apart, and the table has their numbers and no other
+abbrev pub All-named : List ℕ → List (Option ℕ) → Type 0
+All-named text all = (n : ℕ) × Entered n text (replicate 64 None) all
+
+-- station, channel, number and body of a letter are what the first four words of a text write, and the other words name
+-- what it names
 pub record Drafted (text : List ℕ) (draft : Draft) : Type 0 where
   pub station : short-number (word-of text) ≡ Ok (draft .name .station)
   pub channel : short-number (word-of (after-word text)) ≡ Ok (draft .name .channel)
   pub number : long-number (word-of (after-word (after-word text))) ≡ Ok (draft .name .number)
   pub body : length text ≤ 4096 → body-in (word-of (after-word (after-word (after-word text)))) ≡ Ok (contents (draft .body))
+  pub named : All-named (after-word (after-word (after-word (after-word text)))) (draft .named)
 
 -- a comment begins with #, byte 35, and keeps its bytes; a letter to be written begins with W, byte 87, and a blank, and
 -- has what the words after them write; a block to be read has the bytes that its digits write

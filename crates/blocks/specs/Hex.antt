@@ -1,4 +1,5 @@
 -- Hexadecimal digits, and the bytes that they write.
+--   from-to    whether a byte lies in a range
 --   hex-value  the value of a digit
 --   hex-digit  the digit of a value
 --   hex-text   the two digits of a byte

@@ -15,7 +15,7 @@ ghost use Rattle.blocks.specs.declared.commands.Misread.the-variants.{NamedTwi
 ghost use Rattle.blocks.specs.Words.{word-of, after-word};
 ghost use Rattle.blocks.specs.Hex.{hex-bytes};
 ghost use Rattle.blocks.specs.Reasons.{reason-text};
-ghost use Rattle.blocks.specs.Commands.{long-number, short-number, before-quote, text-in, body-in, name-in, pair-in, contents, read-as, Drafted, Asked};
+ghost use Rattle.blocks.specs.Commands.{long-number, short-number, before-quote, text-in, body-in, name-in, pair-in, contents, read-as, All-named, Drafted, Asked};
 use crate::hex::Bytes;
 use crate::words::Splitter;
 use crate::words::SplitterIterator;
@@ -135,7 +135,7 @@ impl Draft {
     }
 }
 
-// The bytes of a line of digits, which may be of any count of bytes but none.
+// The bytes that a line of digits writes, of which there is one or more.
 fn block_digits(line: &[u8]) -> Result<Bytes, Misread>
     ensures { λ r. ⌜ made r (λ bytes. hex-bytes (now (line .entry)) [] None ≡ Ok (contents bytes)) ⌝ }
 {
@@ -210,7 +210,9 @@ fn before_quote(text: &[u8]) -> usize
 }
 
 // The named numbers of the words that are left, by pair.
-fn named_of(words: Splitter<'_>) -> Result<Named, Misread> {
+fn named_of(words: Splitter<'_>) -> Result<Named, Misread>
+    ensures { λ r. ⌜ made r (λ named. All-named (now (words .entry .rest)) named) ⌝ }
+{
     let mut named: Named = [None; 64];
     for word in words {
         let Some(name) = name_of(word) else {
