@@ -2,6 +2,7 @@ pub mod Numbers
 pub mod Sum
 pub mod Mask
 pub mod Faults
+pub mod Pairs
 pub mod Text
 pub mod Parts
 pub mod Reading

@@ -1,6 +1,7 @@
 // Names of letters, and the numbers that a letter names.
 ghost use mathlib.Core.Path.{_≡_};
 ghost use Rattle.std.specs.declared.option.Option.the-variants.{Some};
+ghost use Rattle.block.specs.Pairs.{of-pair, pair-of};
 ghost use Rattle.block.specs.Text.{name-text};
 use std::fmt;
 
@@ -12,7 +13,28 @@ pub struct Name {
     pub number: u32,
 }
 
-// The numbers that a letter names (its dependencies), by pair: pair 8 × station + channel.
+impl Name {
+    // The name of a pair's letter with a number.
+    pub fn of_pair(pair: u8, number: u32) -> Name
+        ensures value { λ r. ⌜ r ≡ of-pair pair number ⌝ }
+        ensures back { λ r. ⌜ pair-of r ≡ pair ⌝ }
+    {
+        Name {
+            station: pair / 8,
+            channel: pair % 8,
+            number,
+        }
+    }
+
+    // The pair of the letter: one station on one channel.
+    pub fn pair(&self) -> usize
+        ensures { λ r. ⌜ r ≡ pair-of (now (self .entry)) ⌝ }
+    {
+        8 * self.station as usize + self.channel as usize
+    }
+}
+
+// The numbers that a letter names (its dependencies), by pair.
 pub type Named = [Option<u32>; 64];
 
 // station.channel.number

@@ -4,7 +4,6 @@
 --   octal         whether a byte is a digit below 8
 --   starts-name   whether a word begins as a name does
 --   name-in       the name that a word writes
---   pair-in       the pair of a name
 --   before-quote  how many bytes come before the first double quote
 --   text-in       a text that a double quote ends
 --   body-fault    why digits are no body
@@ -28,6 +27,7 @@ use Rattle.std.specs.declared.option.Option.the-variants.{Some, None}
 use Rattle.std.specs.declared.result.Result.{Result}
 use Rattle.std.specs.declared.result.Result.the-variants.{Ok, Err}
 use Rattle.block.specs.declared.names.Name.{Name}
+use Rattle.block.specs.Pairs.{pair-of}
 use Rattle.blocks.specs.declared.hex.Bytes.{Bytes}
 use Rattle.blocks.specs.declared.commands.Command.{Command}
 use Rattle.blocks.specs.declared.commands.Command.the-variants.{Comment, Write, Read}
@@ -61,10 +61,6 @@ name-in word =
     (by-some (decimal-value (between 4 (length word) word)) None (λ n.
     Some (record { station = getD word 0 0 - 48; channel = getD word 2 0 - 48; number = n })))
     None
-
--- the pair of a name, 0 to 63
-abbrev pub pair-in : Name → ℕ
-pair-in name = 8 * name .station + name .channel
 
 -- how many bytes come before the first double quote, byte 34
 unfoldable pub before-quote : List ℕ → ℕ
@@ -110,8 +106,8 @@ read-as (Err reason) = Err reason
 unfoldable pub Entered : ℕ → List ℕ → List (Option ℕ) → List (Option ℕ) → Type 0
 Entered zero text named all = (length (word-of text) ≡ 0) × (named ≡ all)
 Entered (suc n) text named all =
-    (name : Name) × (name-in (word-of text) ≡ Some name) × (getD named (pair-in name) None ≡ None)
-    × Entered n (after-word text) (set named (pair-in name) (Some (name .number))) all
+    (name : Name) × (name-in (word-of text) ≡ Some name) × (getD named (pair-of name) None ≡ None)
+    × Entered n (after-word text) (set named (pair-of name) (Some (name .number))) all
 
 -- all words of a text are names, of pairs apart, and the table has their numbers and no other
 abbrev pub All-named : List ℕ → List (Option ℕ) → Type 0

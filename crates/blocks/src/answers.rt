@@ -102,11 +102,7 @@ fn write_names<W: fmt::Write>(letter: &Letter, f: &mut fmt::Formatter<W>) -> fmt
     }
     for pair in 0..64u8 {
         if let Some(number) = letter.named(pair) {
-            let name = Name {
-                station: pair / 8,
-                channel: pair % 8,
-                number,
-            };
+            let name = Name::of_pair(pair, number);
             write!(f, " {name}")?;
         }
     }

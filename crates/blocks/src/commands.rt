@@ -9,13 +9,14 @@ ghost use Rattle.std.specs.Results.{Cases as ByOk};
 ghost use Rattle.std.specs.Vec.{made};
 ghost use Rattle.std.specs.declared.option.Option.the-variants.{Some, None};
 ghost use Rattle.std.specs.declared.result.Result.the-variants.{Ok};
+ghost use Rattle.block.specs.Pairs.{pair-of};
 ghost use Rattle.block.specs.Parts.{parts};
 ghost use Rattle.block.specs.Writing.{writing};
 ghost use Rattle.blocks.specs.declared.commands.Misread.the-variants.{NamedTwice};
 ghost use Rattle.blocks.specs.Words.{word-of, after-word};
 ghost use Rattle.blocks.specs.Hex.{hex-bytes};
 ghost use Rattle.blocks.specs.Reasons.{reason-text};
-ghost use Rattle.blocks.specs.Commands.{long-number, short-number, before-quote, text-in, body-in, name-in, pair-in, contents, read-as, All-named, Drafted, Asked};
+ghost use Rattle.blocks.specs.Commands.{long-number, short-number, before-quote, text-in, body-in, name-in, contents, read-as, All-named, Drafted, Asked};
 use crate::hex::Bytes;
 use crate::words::Splitter;
 use crate::words::SplitterIterator;
@@ -227,10 +228,10 @@ fn named_of(words: Splitter<'_>) -> Result<Named, Misread>
 fn put_name(named: &mut Named, name: Name) -> Result<(), Misread>
     requires { ⌜ name .station < 8 ⌝ ∗ ⌜ name .channel < 8 ⌝ }
     ensures { λ r. ⌜ ByOk r
-        (λ _. (getD (now (named .entry)) (pair-in name) None ≡ None) × (now (named .exit) ≡ set (now (named .entry)) (pair-in name) (Some (name .number))))
-        (λ reason. (reason ≡ NamedTwice) × (isSome (getD (now (named .entry)) (pair-in name) None) ≡ true) × (now (named .exit) ≡ now (named .entry))) ⌝ }
+        (λ _. (getD (now (named .entry)) (pair-of name) None ≡ None) × (now (named .exit) ≡ set (now (named .entry)) (pair-of name) (Some (name .number))))
+        (λ reason. (reason ≡ NamedTwice) × (isSome (getD (now (named .entry)) (pair-of name) None) ≡ true) × (now (named .exit) ≡ now (named .entry))) ⌝ }
 {
-    let pair = pair_of(name);
+    let pair = name.pair();
     if named[pair].is_some() {
         return Err(Misread::NamedTwice);
     }
@@ -256,13 +257,4 @@ fn name_of(word: &[u8]) -> Option<Name>
         }
         _ => None,
     }
-}
-
-// The pair of a name: its place among the named numbers.
-fn pair_of(name: Name) -> usize
-    requires { ⌜ name .station < 8 ⌝ ∗ ⌜ name .channel < 8 ⌝ }
-    ensures value { λ r. ⌜ r ≡ pair-in name ⌝ }
-    ensures bound { λ r. ⌜ r < 64 ⌝ }
-{
-    8 * name.station as usize + name.channel as usize
 }

@@ -7,7 +7,8 @@ use Rattle.std.specs.declared.option.Option.the-variants.{Some, None}
 use Rattle.block.specs.declared.names.Name.{Name}
 use Rattle.blocks.specs.declared.words.Splitter.{Splitter}
 use Rattle.blocks.specs.Words.{word-of, after-word}
-use Rattle.blocks.specs.Commands.{name-in, pair-in, Entered, All-named}
+use Rattle.block.specs.Pairs.{pair-of}
+use Rattle.blocks.specs.Commands.{name-in, Entered, All-named}
 use Rattle.blocks.proofs.commands.named_of.Needs as need
 
 -- no word is left
@@ -16,11 +17,11 @@ unfolding Entered
 done text named e = (e, refl)
 
 -- one more word, before the others
-step : (n : ℕ) (text rest : List ℕ) (named next all : List (Option ℕ)) (name : Name) → name-in (word-of text) ≡ Some name → getD named (pair-in name) None ≡ None
-    → rest ≡ after-word text → next ≡ set named (pair-in name) (Some (name .number)) → Entered n rest next all → Entered (suc n) text named all
+step : (n : ℕ) (text rest : List ℕ) (named next all : List (Option ℕ)) (name : Name) → name-in (word-of text) ≡ Some name → getD named (pair-of name) None ≡ None
+    → rest ≡ after-word text → next ≡ set named (pair-of name) (Some (name .number)) → Entered n rest next all → Entered (suc n) text named all
 unfolding Entered
 step n text rest named next all name p q e f h =
-    (name, p, q, subst (λ (t : List ℕ). Entered n t (set named (pair-in name) (Some (name .number))) all) e (subst (λ (d : List (Option ℕ)). Entered n rest d all) f h))
+    (name, p, q, subst (λ (t : List ℕ). Entered n t (set named (pair-of name) (Some (name .number))) all) e (subst (λ (d : List (Option ℕ)). Entered n rest d all) f h))
 
 pub loop-word-again : need.loop-word-again
 loop-word-again c n all e =
