@@ -11,7 +11,9 @@ use Rattle.std.specs.Joined.{joined}
 use Rattle.std.specs.declared.result.Result.{Result}
 use Rattle.std.specs.declared.result.Result.the-variants.{Ok, Err}
 use Rattle.std.proofs.shelf.Lists.{length-append}
-use Rattle.std.proofs.shelf.Tests.{eqb-true}
+use Rattle.std.proofs.shelf.Tests.{eqb-true, false≢true}
+use Rattle.std.specs.Results.{isOk}
+use Rattle.block.specs.declared.faults.BlockFault.{BlockFault}
 use Rattle.block.specs.declared.faults.BlockFault.the-variants.{Length, Check, Kind}
 use Rattle.block.specs.Numbers.{wide, big, Bytes, zeros, fit}
 use Rattle.block.specs.Sum.{weighted}
@@ -26,6 +28,18 @@ use Rattle.block.proofs.Cuts.{cut, cut-cons, cut-append, cut-whole, length-cut
 use Rattle.block.proofs.Tables.{present-named-of, mask-named-of}
 use Rattle.block.proofs.Checks.{bind-ok, bind-was, test-was, head-was, zeros-cut}
 use Rattle.block.proofs.Sums.{weighted-left}
+
+-- a block that is readable says its parts, and no others
+pub readable : (xs : List ℕ) → isOk (reading xs) ≡ true → reading xs ≡ Ok (parts-of xs)
+readable xs h = go (reading xs) refl h
+  where
+    go : (r : Result Parts BlockFault) → reading xs ≡ r → isOk r ≡ true → reading xs ≡ Ok (parts-of xs)
+    go (Ok p) e t =
+        let f = bind-was (framed xs) _ p e in
+        let r = bind-was (ranged xs) _ p (f .2) in
+        let z = bind-was (cleared xs) _ p (r .2) in
+        e ∙ sym (z .2)
+    go (Err x) e t = absurd (false≢true t)
 
 -- what a block that passed says of its bytes
 pub record Passed (xs : List ℕ) : Type 0 where
