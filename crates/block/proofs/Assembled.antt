@@ -1,7 +1,7 @@
 -- The pieces of a block laid one after the other are the block.
-use Prim.Native.Nat.{ℕ, _+_, _-_, _*_, _≤_}
-use mathlib.Core.Path.{_≡_, refl, sym, ap, ap₂, _∙_}
-use mathlib.Core.List.{List, [], _∷_, _++_}
+use Prim.Native.Nat.{ℕ, _+_, _-_}
+use mathlib.Core.Path.{_≡_, refl, ap, _∙_}
+use mathlib.Core.List.{List, _++_}
 use native.Mathlib.Omega.{arith}
 use lib.ListN.{length}
 use lib.Seq.{paste}
@@ -9,16 +9,15 @@ use Rattle.std.specs.declared.result.Result.the-variants.{Ok}
 use Rattle.std.proofs.shelf.Lists.{length-append}
 use Rattle.block.specs.Numbers.{big, zeros, fit}
 use Rattle.block.specs.Sum.{weighted}
-use Rattle.block.specs.Mask.{mask-of}
 use Rattle.block.specs.Parts.{Parts}
 use Rattle.block.specs.Reading.{head-fits}
-use Rattle.block.specs.Writing.{head, numbers, front, block-of}
+use Rattle.block.specs.Writing.{front, block-of}
 use Rattle.block.specs.Laws.{Typed}
 use Rattle.block.proofs.Wide.{length-big}
 use Rattle.block.proofs.Checks.{head-was}
 use Rattle.block.proofs.Laying.{fit-whole, fit-fit, laid-past}
 use Rattle.block.proofs.Sums.{weighted-left}
-use Rattle.block.proofs.Written.{lead, low, upper, length-low, few, length-upper, length-filled, length-front}
+use Rattle.block.proofs.Written.{low, upper, length-low, few, length-filled, length-front}
 
 module _ (p : Parts) (t : Typed p) (fits : head-fits (p .name) (length (p .body)) ≡ Ok tt) where
   -- the body, laid after the head and the named numbers

@@ -4,7 +4,6 @@ use mathlib.Core.Path.{_≡_, refl, sym, ap, _∙_}
 use mathlib.Core.Bool.{Bool, true, false, cond, _&&_}
 use mathlib.Core.List.{List, [], _∷_, _++_}
 use native.Mathlib.Omega.{arith}
-use native.Mathlib.Nat.{add-zero, zero-add}
 use lib.Dec.{eqb, leb}
 use lib.ListN.{getD, length, drop}
 use Rattle.std.specs.declared.option.Option.{Option}
@@ -15,12 +14,10 @@ use Rattle.std.specs.Holes.{between}
 use Rattle.std.specs.shelf.Lists.{sum}
 use Rattle.std.proofs.shelf.Lists.{length-take-le, length-drop, getD-take, getD-drop}
 use Rattle.std.proofs.shelf.Sums.{getD-le-sumBy}
-use Rattle.std.proofs.shelf.Tests.{cond-true, cond-false, cases-bool, and-parts, leb-true, eqb-true, eq-eqb}
-use mathlib.Core.Logic.{_⊎_, inl, inr}
-use Rattle.block.specs.declared.faults.BlockFault.{BlockFault}
-use Rattle.block.specs.declared.faults.BlockFault.the-variants.{Length, Check, Kind, Range, NonZero}
+use Rattle.std.proofs.shelf.Tests.{cond-true, and-parts, leb-true, eqb-true, eq-eqb}
+use Rattle.block.specs.declared.faults.BlockFault.the-variants.{Range, NonZero}
 use Rattle.block.specs.Numbers.{wide, zeros}
-use Rattle.block.specs.Reading.{Checked, bind, in-range, head-fits, numbers-fit, numbers-from, zeros-in}
+use Rattle.block.specs.Reading.{bind, in-range, head-fits, numbers-fit, numbers-from, zeros-in}
 use Rattle.block.specs.declared.names.Name.{Name}
 use Rattle.block.specs.Mask.{present}
 use Rattle.block.proofs.Tables.{single, present-left}

@@ -1,9 +1,5 @@
 -- Letters and blocks correspond, and the worked examples.
-use Prim.Native.Nat.{ℕ}
-use mathlib.Core.Path.{_≡_, refl, sym, _∙_}
-use mathlib.Core.List.{List}
-use Rattle.std.specs.declared.result.Result.{Result}
-use Rattle.std.specs.declared.result.Result.the-variants.{Ok}
+use mathlib.Core.Path.{refl, sym, _∙_}
 use Rattle.block.specs.declared.faults.BlockFault.{BlockFault}
 use Rattle.block.specs.Numbers.{zeros}
 use Rattle.block.specs.Sum.{weighted}

@@ -1,15 +1,15 @@
 -- A list cut into pieces, each as a number, a byte or zeros.
-use Prim.Native.Nat.{ℕ, zero, suc, _+_, _-_, _*_, _/_, _%_, _<_, _≤_}
-use mathlib.Core.Path.{_≡_, refl, sym, ap, ap₂, _∙_, subst}
+use Prim.Native.Nat.{ℕ, zero, suc, _+_, _-_, _*_, _<_, _≤_}
+use mathlib.Core.Path.{_≡_, refl, sym, ap, ap₂, _∙_}
 use mathlib.Core.List.{List, [], _∷_, _++_}
 use native.Mathlib.Omega.{arith}
 use native.Mathlib.Nat.{add-zero, zero-add, suc-add}
 use native.Mathlib.Numerals.{add-one}
 use lib.ListN.{getD, length, take, drop}
-use Rattle.std.proofs.shelf.Lists.{append-assoc, length-take-le, length-drop, take-all, take-more, drop-more, getD-drop}
+use Rattle.std.proofs.shelf.Lists.{length-take-le, length-drop, take-all, take-more, drop-more, getD-drop}
 use Rattle.std.proofs.shelf.Bits.{div-mul-add, mod-mul-add}
 use Rattle.std.specs.Joined.{joined}
-use Rattle.block.specs.Numbers.{wide, big, Bytes, zeros}
+use Rattle.block.specs.Numbers.{wide, big, Bytes}
 use Rattle.block.specs.Reading.{numbers-from}
 
 -- the n entries of xs from place k

@@ -1,10 +1,8 @@
 -- The count of set bits below a pair, as a count over pairs.
 use Prim.Native.Nat.{ℕ, zero, suc, _+_, _-_, _*_, _/_, _%_, _^_, _<_, _≤_}
-use mathlib.Core.Path.{_≡_, refl, sym, ap, ap₂, _∙_, subst}
-use mathlib.Core.Logic.{_⊎_, inl, inr}
+use mathlib.Core.Path.{_≡_, refl, sym, ap, ap₂, _∙_}
 use native.Mathlib.Omega.{arith}
 use native.Mathlib.Numerals.{one-add}
-use Rattle.std.proofs.shelf.Tests.{cases-lt}
 use lib.Count.{ones, ones-cat}
 use lib.Bits.{bitAnd, and-mask}
 use Rattle.std.proofs.shelf.Bits.{mod-pow-add, one-shl, mod-below, pow-pos}

@@ -1,8 +1,8 @@
 -- What was read is written as the same bytes.
-use Prim.Native.Nat.{ℕ, zero, suc, _+_, _-_, _*_, _^_, _<_, _≤_}
+use Prim.Native.Nat.{ℕ, _+_, _-_, _*_, _≤_}
 use mathlib.Core.Path.{_≡_, refl, sym, ap, ap₂, _∙_}
-use mathlib.Core.Bool.{true, false, cond}
-use mathlib.Core.List.{List, [], _∷_, _++_}
+use mathlib.Core.Bool.{true}
+use mathlib.Core.List.{List, _∷_, _++_}
 use native.Mathlib.Omega.{arith}
 use native.Mathlib.Nat.{zero-add}
 use lib.Dec.{eqb}
@@ -10,16 +10,15 @@ use lib.ListN.{getD, length, take, drop}
 use Rattle.std.specs.Joined.{joined}
 use Rattle.std.specs.declared.result.Result.{Result}
 use Rattle.std.specs.declared.result.Result.the-variants.{Ok, Err}
-use Rattle.std.proofs.shelf.Lists.{length-append}
 use Rattle.std.proofs.shelf.Tests.{eqb-true, false≢true}
 use Rattle.std.specs.Results.{isOk}
 use Rattle.block.specs.declared.faults.BlockFault.{BlockFault}
 use Rattle.block.specs.declared.faults.BlockFault.the-variants.{Length, Check, Kind}
 use Rattle.block.specs.Numbers.{wide, big, Bytes, zeros, fit}
 use Rattle.block.specs.Sum.{weighted}
-use Rattle.block.specs.Mask.{below, mask-of, present}
+use Rattle.block.specs.Mask.{mask-of, present}
 use Rattle.block.specs.Parts.{Parts, parts-of, name-of, named-of}
-use Rattle.block.specs.Reading.{bind, head-fits, numbers-fit, numbers-from, zeros-in, framed, ranged, cleared, count-in, reading}
+use Rattle.block.specs.Reading.{head-fits, numbers-fit, numbers-from, zeros-in, framed, ranged, cleared, count-in, reading}
 use Rattle.block.specs.Writing.{head, numbers, front, block-of, writing}
 use Rattle.block.specs.Laws.{Writes-back}
 use Rattle.block.proofs.Places.{below-le}

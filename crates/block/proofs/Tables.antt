@@ -1,10 +1,10 @@
 -- The table of named numbers: its mask, and where each number stands among those that are there.
 use Prim.Native.Nat.{ℕ, zero, suc, _+_, _-_, _*_, _/_, _%_, _^_, _<_, _≤_}
-use mathlib.Core.Path.{_≡_, refl, sym, ap, ap₂, _∙_, subst}
-use mathlib.Core.Bool.{Bool, true, false, cond}
+use mathlib.Core.Path.{_≡_, refl, sym, ap, ap₂, _∙_}
+use mathlib.Core.Bool.{true, false}
 use mathlib.Core.List.{List, [], _∷_, _++_, map}
-use mathlib.Core.Logic.{_⊎_, inl, inr}
-use native.Mathlib.Nat.{pow-suc, mul-assoc, add-comm, add-mul-mod-self-right, add-assoc, zero-add, add-zero}
+use mathlib.Core.Logic.{inl, inr}
+use native.Mathlib.Nat.{pow-suc, mul-assoc, add-comm, add-mul-mod-self-right, zero-add, add-zero}
 use native.Mathlib.Numerals.{add-one, one-add}
 use native.Mathlib.Omega.{arith}
 use lib.Dec.{eqb}
@@ -14,16 +14,16 @@ use Rattle.std.specs.declared.option.Option.the-variants.{Some, None}
 use Rattle.std.specs.Options.{isSome}
 use Rattle.std.specs.Joined.{joined}
 use Rattle.std.specs.Iters.{counting}
-use Rattle.std.proofs.shelf.Lists.{append-assoc, append-nil, length-append, take-more, take-all, take-append-drop, drop-more}
+use Rattle.std.proofs.shelf.Lists.{append-assoc, append-nil, length-append, take-more, take-append-drop, drop-more}
 use Rattle.std.proofs.shelf.Counted.{map-counting-more, getD-map-counting, length-map-counting}
 use Rattle.std.proofs.shelf.Tests.{cases-lt, cases-eq, cond-true, cond-false, eq-eqb, ne-eqb, true≢false, false≢true}
-use Rattle.std.proofs.shelf.Bits.{field-of, pow-add, pow-pos, shr-high, mod-pow-add}
+use Rattle.std.proofs.shelf.Bits.{field-of, pow-add, shr-high, mod-pow-add}
 use Rattle.block.specs.Numbers.{wide, big}
 use Rattle.block.specs.Mask.{bit, below, flag, mask-of, present}
 use Rattle.block.specs.Parts.{named-in, named-of}
 use Rattle.block.specs.Reading.{numbers-from}
 use Rattle.block.specs.Writing.{numbers}
-use Rattle.block.proofs.Places.{bit-lt, below-le}
+use Rattle.block.proofs.Places.{bit-lt}
 use Rattle.block.proofs.Wide.{length-big}
 
 flag-on : (o : Option ℕ) → true ≡ isSome o → flag o ≡ 1

@@ -1,15 +1,15 @@
 -- Numbers of several bytes within a longer list, and what is read back of them.
 use Prim.Native.Nat.{ℕ, zero, suc, _+_, _*_, _/_, _%_, _^_, _<_, _≤_}
-use mathlib.Core.Path.{_≡_, refl, sym, ap, ap₂, _∙_, subst}
+use mathlib.Core.Path.{_≡_, refl, sym, ap, ap₂, _∙_}
 use mathlib.Core.List.{List, [], _∷_, _++_}
 use native.Mathlib.Omega.{arith}
-use native.Mathlib.Nat.{pow-suc, add-assoc, add-zero, zero-add}
+use native.Mathlib.Nat.{pow-suc, add-assoc, zero-add}
 use native.Mathlib.Numerals.{add-one}
 use lib.ListN.{getD, length}
 use Rattle.std.proofs.shelf.Lists.{append-assoc, length-push, getD-at, getD-append-left, getD-append-right, getD-append-add, getD-past, getD-replicate, length-replicate}
 use Rattle.std.proofs.shelf.Bits.{div-below, div-add-mod', mod-below}
 use Rattle.std.proofs.shelf.Tests.{cases-lt}
-use mathlib.Core.Logic.{_⊎_, inl, inr}
+use mathlib.Core.Logic.{inl, inr}
 use Rattle.block.specs.Numbers.{wide, big, Bytes, zeros, fit}
 
 pub length-big : (n x : ℕ) → length (big n x) ≡ n

@@ -1,8 +1,7 @@
 -- What is written reads back as the same letter.
-use Prim.Native.Nat.{ℕ, zero, suc, _+_, _-_, _*_, _^_, _<_, _≤_}
-use mathlib.Core.Path.{_≡_, refl, sym, ap, ap₂, _∙_, subst}
-use mathlib.Core.Bool.{true, false, cond}
-use mathlib.Core.List.{List, [], _∷_, _++_, map}
+use Prim.Native.Nat.{ℕ, _+_, _-_, _*_, _<_, _≤_}
+use mathlib.Core.Path.{_≡_, refl, sym, ap, ap₂, _∙_}
+use mathlib.Core.List.{List, [], _∷_, _++_}
 use native.Mathlib.Omega.{arith}
 use lib.Dec.{eqb}
 use lib.ListN.{getD, length, take, drop}
@@ -14,19 +13,18 @@ use Rattle.std.specs.declared.result.Result.{Result}
 use Rattle.std.specs.declared.result.Result.the-variants.{Ok, Err}
 use Rattle.std.proofs.shelf.Lists.{append-assoc, append-nil, length-append, getD-append-left, take-at, drop-at, take-all}
 use Rattle.std.proofs.shelf.Counted.{fill-by-all}
-use Rattle.std.proofs.shelf.Tests.{cond-true, eq-eqb, ne-eqb}
+use Rattle.std.proofs.shelf.Tests.{cond-true, eq-eqb}
 use Rattle.block.specs.declared.names.Name.{Name}
-use Rattle.block.specs.declared.faults.BlockFault.{BlockFault}
-use Rattle.block.specs.declared.faults.BlockFault.the-variants.{Length, Check, Kind, Range, NonZero}
+use Rattle.block.specs.declared.faults.BlockFault.the-variants.{Length, Check, Kind}
 use Rattle.block.specs.Numbers.{wide, big, Bytes, zeros, fit}
 use Rattle.block.specs.Sum.{weighted}
-use Rattle.block.specs.Mask.{bit, below, flag, mask-of, present}
+use Rattle.block.specs.Mask.{below, flag, mask-of, present}
 use Rattle.block.specs.Parts.{Parts, parts-of, name-of, named-in, named-of}
-use Rattle.block.specs.Reading.{Checked, bind, head-fits, numbers-fit, numbers-from, zeros-in, framed, ranged, cleared, count-in, reading}
-use Rattle.block.specs.Writing.{head, numbers, front, block-of, writing, roomy}
+use Rattle.block.specs.Reading.{head-fits, numbers-fit, zeros-in, framed, ranged, cleared, count-in, reading}
+use Rattle.block.specs.Writing.{head, numbers, front, block-of}
 use Rattle.block.specs.Laws.{Typed, Reads-back}
 use Rattle.block.proofs.Places.{below-le}
-use Rattle.block.proofs.Wide.{length-big, length-zeros, wide-at, getD-fit, bytes-append, bytes-zeros, bytes-each, bytes-big}
+use Rattle.block.proofs.Wide.{length-big, wide-at, getD-fit, bytes-append, bytes-zeros, bytes-each, bytes-big}
 use Rattle.block.proofs.Tables.{single, mask-lt, bit-mask, below-present, present-around, present-named-of, named-on, named-off, joined-append, length-joined}
 use Rattle.block.proofs.Checks.{bind-ok, bind-was, head-was, numbers-was, zeros-pass}
 use Rattle.block.proofs.Laying.{length-fit}

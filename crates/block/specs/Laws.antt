@@ -10,12 +10,10 @@ use Prim.Native.Nat.{ℕ}
 use mathlib.Core.Path.{_≡_}
 use mathlib.Core.List.{List, [], _∷_}
 use lib.ListN.{length, replicate, set}
-use Rattle.std.specs.declared.option.Option.{Option}
 use Rattle.std.specs.declared.option.Option.the-variants.{Some, None}
 use Rattle.std.specs.declared.result.Result.the-variants.{Ok, Err}
 use Rattle.block.specs.declared.faults.BlockFault.the-variants.{Kind}
 use Rattle.block.specs.Numbers.{Bytes, wide}
-use Rattle.block.specs.Mask.{mask-of}
 use Rattle.block.specs.Parts.{Parts}
 use Rattle.block.specs.Reading.{reading}
 use Rattle.block.specs.Writing.{block-of, writing}

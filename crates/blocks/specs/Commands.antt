@@ -15,7 +15,7 @@
 --   All-named     that all words of a text do
 --   Drafted       that the words of a text write a letter
 --   Asked         that a line asks for a command
-use Prim.Native.Nat.{ℕ, zero, suc, _+_, _-_, _*_, _≤_}
+use Prim.Native.Nat.{ℕ, zero, suc, _+_, _-_, _≤_}
 use mathlib.Core.Bool.{Bool, cond, _&&_}
 use mathlib.Core.List.{List, [], _∷_}
 use mathlib.Core.Path.{_≡_}

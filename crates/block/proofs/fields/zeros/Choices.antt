@@ -1,4 +1,4 @@
-use Prim.Native.Nat.{_-_, _≤_}
+use Prim.Native.Nat.{_-_}
 use mathlib.Core.Path.{_≡_}
 use Rattle.block.specs.Reading.{zeros-in}
 use Rattle.block.proofs.fields.zeros.Given as given

@@ -2,7 +2,7 @@ use Prim.Native.Nat.{ℕ}
 use mathlib.Core.Path.{_≡_, ap, _∙_}
 use mathlib.Core.List.{List, _++_}
 use native.Mathlib.Omega.{arith}
-use lib.ListN.{replicate, drop, set}
+use lib.ListN.{replicate, set}
 use Rattle.std.proofs.shelf.Edits.{fill-more}
 use Rattle.std.proofs.shelf.Lists.{drop-all, append-nil}
 use Rattle.block.specs.Numbers.{zeros}

@@ -1,14 +1,12 @@
 use Prim.Native.Nat.{ℕ}
-use mathlib.Core.Path.{_≡_, refl, sym, ap, ap₂, _∙_}
-use mathlib.Core.List.{List, _++_}
+use mathlib.Core.Path.{_≡_, sym, ap, _∙_}
 use lib.ListN.{length}
 use Rattle.std.specs.declared.result.Result.the-variants.{Ok}
 use Rattle.block.specs.Numbers.{big, fit}
-use Rattle.block.specs.Sum.{weighted}
-use Rattle.block.specs.Mask.{mask-of, present}
-use Rattle.block.specs.Parts.{Parts, parts}
+use Rattle.block.specs.Mask.{present}
+use Rattle.block.specs.Parts.{parts}
 use Rattle.block.specs.Reading.{head-fits, numbers-fit, reading}
-use Rattle.block.specs.Writing.{head, front, block-of, writing, roomy}
+use Rattle.block.specs.Writing.{head, block-of, writing}
 use Rattle.block.specs.Laws.{Typed}
 use Rattle.block.proofs.Checks.{bind-ok}
 use Rattle.block.proofs.Laying.{big-4}

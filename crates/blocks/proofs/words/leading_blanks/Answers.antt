@@ -1,4 +1,4 @@
-use mathlib.Core.Path.{sym, _∙_}
+use mathlib.Core.Path.{sym}
 use native.Mathlib.Omega.{arith}
 use Rattle.blocks.proofs.Steps.{blanks-on, blanks-off, blanks-end}
 use Rattle.blocks.proofs.words.leading_blanks.Needs as need
