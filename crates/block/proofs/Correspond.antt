@@ -21,4 +21,4 @@ corresponds = record { reads-back = reads-back; writes-back = writes-back; one-b
 
 pub examples : Examples
 unfolding zeros weighted mask-of below front numbers-from zeros-in
-examples = record { empty = refl; seven = refl; mask = refl; check = refl; zeros = refl }
+examples = record { empty = refl; seven = refl; mask = refl; check = refl; zeros = refl; zeros-number = refl; zeros-place = refl }

@@ -24,10 +24,6 @@ pub cut-whole : (xs : List ℕ) (n : ℕ) → length xs ≡ n → cut xs 0 n ≡
 unfolding cut
 cut-whole xs n h = take-all n xs (omega arith)
 
-pub cut-rest : (xs : List ℕ) (k n : ℕ) → length xs ≡ k + n → cut xs k n ≡ drop k xs
-unfolding cut
-cut-rest xs k n h = take-all n (drop k xs) (omega (arith, length-drop k xs))
-
 pub length-cut : (xs : List ℕ) (k n : ℕ) → k + n ≤ length xs → length (cut xs k n) ≡ n
 unfolding cut
 length-cut xs k n h = length-take-le n (drop k xs) (omega (arith, length-drop k xs))

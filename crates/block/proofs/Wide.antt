@@ -16,13 +16,7 @@ pub length-big : (n x : ℕ) → length (big n x) ≡ n
 length-big zero x = refl
 length-big (suc n) x = length-push (big n (x / 256)) (x % 256) ∙ ap (λ (m : ℕ). m + 1) (length-big n (x / 256)) ∙ add-one n
 
--- a number that lies in the first part of a list
-pub wide-left : (n : ℕ) (xs ys : List ℕ) (k : ℕ) → k + n ≤ length xs → wide n (xs ++ ys) k ≡ wide n xs k
-wide-left zero xs ys k h = refl
-wide-left (suc n) xs ys k h =
-    ap₂ (λ (a b : ℕ). a * 256 + b) (wide-left n xs ys k (omega arith)) (getD-append-left xs ys 0 (k + n) (omega arith))
-
--- a number that lies in the second part
+-- a number that lies in the second part of a list
 pub wide-right : (n : ℕ) (xs ys : List ℕ) (k : ℕ) → wide n (xs ++ ys) (length xs + k) ≡ wide n ys k
 wide-right zero xs ys k = refl
 wide-right (suc n) xs ys k =

@@ -5,6 +5,8 @@
 --   One-block     each letter has just one block
 --   One-letter    two letters with one block are one letter
 --   Corresponds   these four
+--   first         letter 1.0.1
+--   second        letter 3.1.1
 --   Examples      the worked examples
 use Prim.Native.Nat.{ℕ}
 use mathlib.Core.Path.{_≡_}
@@ -13,6 +15,7 @@ use lib.ListN.{length, replicate, set}
 use Rattle.std.specs.declared.option.Option.the-variants.{Some, None}
 use Rattle.std.specs.declared.result.Result.the-variants.{Ok, Err}
 use Rattle.block.specs.declared.faults.BlockFault.the-variants.{Kind}
+use Rattle.block.specs.Faults.{number-of, place-of}
 use Rattle.block.specs.Numbers.{Bytes, wide}
 use Rattle.block.specs.Parts.{Parts}
 use Rattle.block.specs.Reading.{reading}
@@ -61,3 +64,5 @@ pub record Examples : Type 0 where
   pub mask : wide 8 (block-of second) 16 ≡ 260
   pub check : wide 4 (block-of second) 508 ≡ 203
   pub zeros : reading (replicate 512 0) ≡ Err (Kind 0)
+  pub zeros-number : number-of (Kind 0) ≡ 22
+  pub zeros-place : place-of (Kind 0) ≡ 0

@@ -24,6 +24,7 @@ pub record Parts : Type 0 where
   pub named : List (Option ℕ)
   pub body : List ℕ
 
+-- a letter of these parts
 abbrev pub parts : Name → List (Option ℕ) → List ℕ → Parts
 parts name named body = record { name = name; named = named; body = body }
 
@@ -35,6 +36,7 @@ named-in xs mask k = cond (eqb (bit mask k) 1) (Some (wide 4 xs (24 + 4 * below 
 unfoldable pub named-of : List ℕ → List (Option ℕ)
 named-of xs = map (named-in xs (wide 8 xs 16)) (counting 0 64)
 
+-- the name that the bytes say: poster in byte 2, channel in byte 3, number in bytes 4 to 7
 abbrev pub name-of : List ℕ → Name
 name-of xs = record { station = getD xs 2 0; channel = getD xs 3 0; number = wide 4 xs 4 }
 
