@@ -1,4 +1,6 @@
 // Letters and their blocks of 512 bytes: names, faults, the reader, the writer, and the laws between the two.
+#![tactic(auto)]
+
 mod faults;
 mod fields;
 mod laws;

@@ -1,4 +1,6 @@
 // Reads lines from standard input and answers each with one line: the block of a letter, the letter of a block, or why neither.
+#![tactic(auto)]
+
 ghost use Rattle.std.specs.Prelude.{◌≡◌, None};
 ghost use Rattle.blocks.specs.Lines.{text_of};
 ghost use Rattle.blocks.specs.declared.answers.Answer.TheVariants.{NotUnderstood};

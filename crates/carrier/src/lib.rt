@@ -1,4 +1,6 @@
 // Carriers of blocks: their meaning, what any of them can be used for, and the wall, which is made of two.
+#![tactic(auto)]
+
 mod faults;
 mod laws;
 mod meaning;

@@ -1,4 +1,6 @@
 // Puts and takes blocks through a wall over a tray and a reel, and lists what was taken in which order and what was refused.
+#![tactic(auto)]
+
 use block::Block;
 use carrier::{Carrier, Stations, Wall};
 use filling::{empty, fill, put_back};

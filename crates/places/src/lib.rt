@@ -1,4 +1,6 @@
 // Carriers with places of their own: the tray in the caller's memory, and the reel.
+#![tactic(auto)]
+
 mod reel;
 mod shares;
 mod tray;

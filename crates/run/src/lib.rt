@@ -1,4 +1,6 @@
 // Runs of records over places that the caller lends, for every kind of record.
+#![tactic(auto)]
+
 ghost use Rattle.std.specs.Prelude.{◌≡◌, ◌≤◌, length};
 ghost use Rattle.run.specs.Records.{records, Adding, Removing, Reading};
 
