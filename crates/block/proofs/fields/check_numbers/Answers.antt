@@ -10,14 +10,14 @@ loop-i-init c =
     let e : c.args.count - 0 ≡ c.args.count = omega arith in
     ap (λ (n : ℕ). numbers_fit (numbers_from c.args.bytes.now 24 n) 24) e
 
-pub returns-in-err-number-fits : goal.returns-in-err-number-fits
-returns-in-err-number-fits c =
-    let p = err_from_is_err_and c.from-residual.result c.from-residual.ensures.1 in
+pub returns-in_err-number_fits : goal.returns-in_err-number_fits
+returns-in_err-number_fits c =
+    let p = err_from_is_err_and c.from_residual.result c.from_residual.ensures.1 in
     let at = 24 + 4 * c.loop-i.i in
-    let f = c.in-err-number-fits.field-0.0 in
+    let f = c.in_err-number_fits.field-0.0 in
     let step = numbers_step c.args.bytes.now at (c.args.count - c.loop-i.i) (at + 4) (c.args.count - c.loop-i.i - 1) refl (omega arith) in
     let off : in_range 1 1000000 (wide 4 c.args.bytes.now at) at ≡ Err f =
-    ap (λ (y : ℕ). in_range 1 1000000 y at) (sym c.number-at.ensures) ∙ sym c.in-err-number-fits.ensures in
+    ap (λ (y : ℕ). in_range 1 1000000 y at) (sym c.number_at.ensures) ∙ sym c.in_err-number_fits.ensures in
     let stops = ap (λ (r : Checked). bind r (λ _. numbers_fit (numbers_from c.args.bytes.now (at + 4) (c.args.count - c.loop-i.i - 1)) (at + 4))) off in
     let whole = c.loop-i.invariant in
     rw (p.1, p.2) (cc)
@@ -29,7 +29,7 @@ loop-i-preserved c =
     let left = c.args.count - (c.loop-i.i + 1) in
     let step = numbers_step c.args.bytes.now at (c.args.count - c.loop-i.i) next left (omega arith) (omega arith) in
     let on : in_range 1 1000000 (wide 4 c.args.bytes.now at) at ≡ Ok tt =
-    ap (λ (y : ℕ). in_range 1 1000000 y at) (sym c.number-at.ensures) ∙ sym c.in-ok-number-fits.ensures in
+    ap (λ (y : ℕ). in_range 1 1000000 y at) (sym c.number_at.ensures) ∙ sym c.in_ok-number_fits.ensures in
     let goes = ap (λ (r : Checked). bind r (λ _. numbers_fit (numbers_from c.args.bytes.now next left) next)) on in
     sym goes ∙ sym step ∙ c.loop-i.invariant
 

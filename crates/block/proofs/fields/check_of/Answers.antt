@@ -3,8 +3,8 @@ use Rattle.block.specs.Sum.{weighted}
 use Rattle.block.proofs.Sums.{term_le}
 use Rattle.block.proofs.fields.check_of.Goals as goal
 
-pub overflow-add-sum-in-loop-i : goal.overflow-add-sum-in-loop-i
-overflow-add-sum-in-loop-i c =
+pub overflow_add-sum-in-loop-i : goal.overflow_add-sum-in-loop-i
+overflow_add-sum-in-loop-i c =
     omega (arith, term_le (get_or c.args.bytes.now c.loop-i.i 0) c.loop-i.i (omega arith) (omega arith))
 
 pub loop-i-init : goal.loop-i-init

@@ -6,7 +6,7 @@ use Rattle.block.proofs.Wide.{length-big}
 use Rattle.block.proofs.Tables.{numbers_some, numbers_none, length-numbers}
 use Rattle.block.proofs.Laying.{big_4, laid_next}
 use Rattle.block.proofs.writer.lay_numbers.Goals as goal
-use Rattle.block.proofs.writer.lay_numbers.Goals.{in-Some, in-default}
+use Rattle.block.proofs.writer.lay_numbers.Goals.{in-Some, in_default}
 
 pub loop-k-preserved : goal.loop-k-preserved
 loop-k-preserved c =
@@ -21,7 +21,7 @@ loop-k-preserved c =
           ∙ laid_next _ _ (w ++ numbers (take k ns)) (big 4 y) at (c.loop-k.invariant w l e) (x.to_be_bytes.ensures ∙ big_4 y) long (omega (arith, x.place.ensures.bound, length-big 4 y))
           ∙ ap (fit 512) (append_assoc w (numbers (take k ns)) (big 4 y))
           ∙ ap (λ (ys : List ℕ). fit 512 (w ++ ys)) (sym (numbers_some ns k y (omega (arith, c.told-named)) x.in-Some.is))
-      | in-default x ↦ λ w l e. x.memory-is ∙ c.loop-k.invariant w l e ∙ ap (λ (ys : List ℕ). fit 512 (w ++ ys)) (sym (numbers_none ns k (omega (arith, c.told-named)) x.in-default.is))
+      | in_default x ↦ λ w l e. x.memory-is ∙ c.loop-k.invariant w l e ∙ ap (λ (ys : List ℕ). fit 512 (w ++ ys)) (sym (numbers_none ns k (omega (arith, c.told-named)) x.in_default.is))
     ]
 
 pub returns : goal.returns

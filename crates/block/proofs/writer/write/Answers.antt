@@ -14,14 +14,14 @@ use Rattle.block.proofs.writer.write.Goals as goal
 pub returns : goal.returns
 returns c =
     let p = parts c.args.name c.args.named.now c.args.body.now in
-    let t : Typed p = record { table = c.told-named; bytes = λ i. (c.type-inv.body i).fits } in
-    let fits : head_fits p.name (length p.body) ≡ Ok tt = sym c.in-ok-head-fits.ensures in
-    let nums : numbers_fit (present p.named) 24 ≡ Ok tt = sym c.in-ok-check-named.ensures in
-    let mask = c.mask-of-mask.ensures in
-    let top = c.lay-head.ensures c.clear.ensures ∙ ap (λ (m : ℕ). fit 512 (head p.name (length p.body) m)) mask in
-    let mid = c.lay-numbers.ensures (lead p) (length-lead p) top in
+    let t : Typed p = record { table = c.told-named; bytes = λ i. (c.type_inv.body i).fits } in
+    let fits : head_fits p.name (length p.body) ≡ Ok tt = sym c.in_ok-head_fits.ensures in
+    let nums : numbers_fit (present p.named) 24 ≡ Ok tt = sym c.in_ok-check_named.ensures in
+    let mask = c.mask_of-mask.ensures in
+    let top = c.lay_head.ensures c.clear.ensures ∙ ap (λ (m : ℕ). fit 512 (head p.name (length p.body) m)) mask in
+    let mid = c.lay_numbers.ensures (lead p) (length-lead p) top in
     let body = c.lay.ensures ∙ body_laid p t fits _ mid in
-    let sum = c.to-be-bytes.ensures ∙ big_4 c.check-of-check.result ∙ ap (big 4) (c.check-of-check.ensures ∙ check_laid p t fits _ body) in
+    let sum = c.to_be_bytes.ensures ∙ big_4 c.check_of-check.result ∙ ap (big 4) (c.check_of-check.ensures ∙ check_laid p t fits _ body) in
     let whole : c.lay-2.new.memory ≡ block_of p = c.lay-2.ensures ∙ block_laid p t fits _ _ body sum in
     let same : writing 512 p ≡ Ok (block_of p) = bind_ok (head_fits p.name (length p.body)) _ tt fits ∙ bind_ok (numbers_fit (present p.named) 24) _ tt nums in
     record {

@@ -21,13 +21,13 @@ step n text rest named next all name p q e f h =
 pub loop-word-preserved : goal.loop-word-preserved
 loop-word-preserved c n all e =
     let text = c.loop-word.word-iterator.rest.now in
-    let name = c.in-Some-name-of.name in
-    let named : name_in (word_of text) ≡ Some name = sym (ap name_in c.in-Some.ensures.steps.0) ∙ sym c.name-of.ensures.value ∙ c.in-Some-name-of.is in
-    let put = c.in-ok-put-name.ensures in
-    c.loop-word.invariant (suc n) all (step n text c.next.new.self.rest.now c.loop-word.named c.put-name.new.named all name named put.0 c.in-Some.ensures.steps.1 put.1 e)
+    let name = c.in-Some-name_of.name in
+    let named : name_in (word_of text) ≡ Some name = sym (ap name_in c.in-Some.ensures.steps.0) ∙ sym c.name_of.ensures.value ∙ c.in-Some-name_of.is in
+    let put = c.in_ok-put_name.ensures in
+    c.loop-word.invariant (suc n) all (step n text c.next.new.self.rest.now c.loop-word.named c.put_name.new.named all name named put.0 c.in-Some.ensures.steps.1 put.1 e)
 
 pub returns : goal.returns
 returns c =
     let named = c.loop-word.named in
-    subst (λ (s : Splitter). AllNamed s.rest.now named) c.into-iter-word-iterator.ensures.into-iter-gives
+    subst (λ (s : Splitter). AllNamed s.rest.now named) c.into_iter-word-iterator.ensures.into_iter-gives
     (c.loop-word.invariant 0 named (done c.loop-word.word-iterator.rest.now named c.in-None.ensures.steps.0))

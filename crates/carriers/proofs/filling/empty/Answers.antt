@@ -7,7 +7,7 @@ loop-carrier-smaller g c = count_falls c.in-Some.ensures.meaning
 
 pub returns : goal.returns
 returns g c =
-    let t = c.in-default.ensures.meaning in
+    let t = c.in_default.ensures.meaning in
     record {
       none = none_left t;
       only = record {

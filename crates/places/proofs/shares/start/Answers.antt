@@ -5,8 +5,8 @@ use Rattle.places.proofs.shares.start.Goals as goal
 within : (c : goal.Start) → c.args.each * c.args.station + c.args.each ≤ c.args.total
 within c = omega (arith, mul-le-mul_left c.args.each c.requires.0, mul-suc c.args.each c.args.station)
 
-pub overflow-mul-result : goal.overflow-mul-result
-overflow-mul-result c = let h = within c in omega arith
+pub overflow_mul-result : goal.overflow_mul-result
+overflow_mul-result c = let h = within c in omega arith
 
 pub returns : goal.returns
 returns c = record { value = refl; within = within c }

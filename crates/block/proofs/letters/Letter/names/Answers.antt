@@ -7,5 +7,5 @@ use Rattle.block.proofs.letters.Letter.names.Goals as goal
 pub returns : goal.returns
 returns c =
     let xs = c.args.self.now.block in
-    c.count.ensures.value ∙ ap (λ (m : ℕ). below m 64) c.mask-at.ensures
+    c.count.ensures.value ∙ ap (λ (m : ℕ). below m 64) c.mask_at.ensures
     ∙ sym (length-numbers_from (below (wide 8 xs 16) 64) xs 24) ∙ ap length (sym (present-named_of xs))

@@ -21,7 +21,7 @@ fourth_short xs =
 pub returns : goal.returns
 returns c =
     let text = c.args.text.now in
-    let word = c.in-ok-required-4.field-0.now in
+    let word = c.in_ok-required-4.field-0.now in
     let is : word ≡ word_of (after_word (after_word (after_word text))) = search rules in
     let short : length text ≤ 4096 → length word ≤ 4096 = λ fits. omega (arith, ap length is, fourth_short text) in
     let left : c.required-4.new.words.rest.now ≡ after_word (after_word (after_word (after_word text))) = search rules in
@@ -29,6 +29,6 @@ returns c =
       station = search rules;
       channel = search rules;
       number = search rules;
-      named = subst (λ (rest : List ℕ). AllNamed rest c.in-ok-named.named) left c.in-ok-named.ensures;
-      body = λ fits. sym (ap body_in is) ∙ sym (c.in-ok-body.ensures (short fits));
+      named = subst (λ (rest : List ℕ). AllNamed rest c.in_ok-named.named) left c.in_ok-named.ensures;
+      body = λ fits. sym (ap body_in is) ∙ sym (c.in_ok-body.ensures (short fits));
     }

@@ -15,11 +15,11 @@ returns-clause-writes g c plain ok =
     let took = g.W.Write.write_str_gives in
     let x = c.from.result in
     let y = c.from-2.result in
-    let mid = c.write-char.new.self in
-    let end = c.write-char-2.new.self in
-    let first = c.write-char.ensures.writes plain (ap is_ok c.in-ok-write-char.was) in
-    let second = c.write-char-2.ensures.writes first.plain ok in
+    let mid = c.write_char.new.self in
+    let end = c.write_char-2.new.self in
+    let first = c.write_char.ensures.writes plain (ap is_ok c.in_ok-write_char.was) in
+    let second = c.write_char-2.ensures.writes first.plain ok in
     let text =
-    two c.args.self.now.0 x y c.hex_digit.result c.hex-digit-2.result c.from.ensures c.hex_digit.ensures.value c.from-2.ensures c.hex-digit-2.ensures.value c.hex_digit.ensures.ascii c.hex-digit-2.ensures.ascii in
+    two c.args.self.now.0 x y c.hex_digit.result c.hex_digit-2.result c.from.ensures c.hex_digit.ensures.value c.from-2.ensures c.hex_digit-2.ensures.value c.hex_digit.ensures.ascii c.hex_digit-2.ensures.ascii in
     has_written_of_eq took c.args.f.now (encode x ++ encode y) (hex_text c.args.self.now.0) end text
     (has_written_append took c.args.f.now (encode x) mid (encode y) end first second)

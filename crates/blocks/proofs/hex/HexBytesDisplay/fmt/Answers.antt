@@ -15,7 +15,7 @@ loop-byte-preserved g c plain =
     let xs = c.args.self.now.0.now in
     let i = c.loop-byte.byte-index in
     let before = c.loop-byte.invariant plain in
-    let ok : is_ok c.write.result ≡ true = cc (ap is_ok c.in-ok-write.was) in
+    let ok : is_ok c.write.result ≡ true = cc (ap is_ok c.in_ok-write.was) in
     let here = c.write.ensures.writes before.plain ok in
     has_written_of_eq took c.args.f.now (flat_map hex_text (take i xs) ++ hex_text (get_or xs i 0)) (flat_map hex_text (take (i + 1) xs)) c.write.new.self (more xs i (omega arith))
     (has_written_append took c.args.f.now (flat_map hex_text (take i xs)) c.loop-byte.f (hex_text (get_or xs i 0)) c.write.new.self before here)

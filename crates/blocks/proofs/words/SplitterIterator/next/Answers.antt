@@ -16,24 +16,24 @@ word_is xs n m p q = let r = take_rest xs n in cc
 after_is : (xs : List ℕ) (n m : ℕ) → n ≡ blanks xs → m ≡ word_length (from n xs) false → drop m (from n xs) ≡ after_word xs
 after_is xs n m p q = let r = take_rest xs n in cc
 
-pub returns-then-is-empty : goal.returns-then-is-empty
-returns-then-is-empty c =
+pub returns-then-is_empty : goal.returns-then-is_empty
+returns-then-is_empty c =
     let xs = c.args.self.now.rest.now in
-    let n = c.leading-blanks.result in
+    let n = c.leading_blanks.result in
     let m = c.word_length.result in
-    let word = word_is xs n m c.leading-blanks.ensures.value c.word_length.ensures.value in
-    let after = after_is xs n m c.leading-blanks.ensures.value c.word_length.ensures.value in
-    let none = eqb-true (length c.split-at.result.0.now) 0 (sym c.if-is-empty.ensures) in
-    record { steps = (ap length (sym word ∙ sym c.split-at.ensures.front) ∙ none, c.split-at.ensures.back ∙ after); goes = firm (tt) (λ h. search rules) }
+    let word = word_is xs n m c.leading_blanks.ensures.value c.word_length.ensures.value in
+    let after = after_is xs n m c.leading_blanks.ensures.value c.word_length.ensures.value in
+    let none = eqb-true (length c.split_at.result.0.now) 0 (sym c.if-is_empty.ensures) in
+    record { steps = (ap length (sym word ∙ sym c.split_at.ensures.front) ∙ none, c.split_at.ensures.back ∙ after); goes = firm (tt) (λ h. search rules) }
 
-pub returns-else-is-empty : goal.returns-else-is-empty
-returns-else-is-empty c =
+pub returns-else-is_empty : goal.returns-else-is_empty
+returns-else-is_empty c =
     let xs = c.args.self.now.rest.now in
-    let n = c.leading-blanks.result in
+    let n = c.leading_blanks.result in
     let m = c.word_length.result in
-    let word = word_is xs n m c.leading-blanks.ensures.value c.word_length.ensures.value in
-    let after = after_is xs n m c.leading-blanks.ensures.value c.word_length.ensures.value in
-    let some = eqb-false (length c.split-at.result.0.now) 0 (sym c.if-is-empty.ensures) in
+    let word = word_is xs n m c.leading_blanks.ensures.value c.word_length.ensures.value in
+    let after = after_is xs n m c.leading_blanks.ensures.value c.word_length.ensures.value in
+    let some = eqb-false (length c.split_at.result.0.now) 0 (sym c.if-is_empty.ensures) in
     let whole = ap length (take_rest xs n) in
-    let less : length c.split-at.result.1.now < length xs = omega (arith, c.split-at.ensures.back_len, c.split-at.ensures.front-len, length-drop n xs) in
-    record { steps = (c.split-at.ensures.front ∙ word, c.split-at.ensures.back ∙ after); goes = firm ((tt, tt, less)) (λ h. search rules) }
+    let less : length c.split_at.result.1.now < length xs = omega (arith, c.split_at.ensures.back_len, c.split_at.ensures.front-len, length-drop n xs) in
+    record { steps = (c.split_at.ensures.front ∙ word, c.split_at.ensures.back ∙ after); goes = firm ((tt, tt, less)) (λ h. search rules) }

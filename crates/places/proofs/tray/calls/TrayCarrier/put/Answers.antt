@@ -16,7 +16,7 @@ returns c =
     let e = c.add.ensures in
     let P : ℕ → List Block → List Block → Type 0
     = λ w xs ys. Puts s b r (held w runs xs) (held w runs' ys) (room w) (room w) × Queued r b (held w runs xs s) (held w runs' ys s) in
-    let k = shown P c.each-each.ensures c.as-mut-slice-memory.ensures.value
-    (with_items_is c.args.self.now.memory c.add.new.places (c.add.auto.places ∙ c.as-mut-slice-memory.ensures.len))
+    let k = shown P c.each-each.ensures c.as_mut_slice-memory.ensures.value
+    (with_items_is c.args.self.now.memory c.add.new.places (c.add.auto.places ∙ c.as_mut_slice-memory.ensures.len))
     (puts_queued s b r _ _ _ _ e.answer e.own e.others (λ _. refl), e.own) in
     record { meaning = k.0; queued = k.1; turns = λ _. refl; memory = refl }

@@ -27,13 +27,13 @@ returns c =
     let x' = c.take.new.into in
     let runs = old.shares.runs in
     let runs' = c.take.new.self.runs in
-    let e = c.in-ok-take.ensures in
+    let e = c.in_ok-take.ensures in
     let at = c.place-at.result in
     let below : s < 8 = held_below (eighth (vec_len old.memory)) runs (vec_items old.memory) s (omega (arith, c.count-count.ensures, c.if-count-eq0.false)) in
     let known : s < length old.turns = omega arith in
     let D : ℕ → List Block → List Block → Type 0 = λ w xs ys. TakenAt (Some tt) at x x' (held w runs xs s) (held w runs' ys s) × ((t : ℕ) → (t ≡ s → ⊥) → held w runs' ys t ≡ held w runs xs t) in
-    let h = shown D c.each-each.ensures c.as-mut-slice-memory.ensures.value
-    (with_items_is old.memory c.take.new.places (c.take.auto.places ∙ c.as-mut-slice-memory.ensures.len))
+    let h = shown D c.each-each.ensures c.as_mut_slice-memory.ensures.value
+    (with_items_is old.memory c.take.new.places (c.take.auto.places ∙ c.as_mut_slice-memory.ensures.len))
     (e.own, e.others) in
     let k = takes_by_turn (turn_of old s) s (Some tt) at x x' (tray_waits old) _ (tray_limits old) (c.place-at.ensures ∙ ap (place_of (turn_of old s)) c.count-count.ensures) h.0 h.1 in
     record {
