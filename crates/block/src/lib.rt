@@ -82,7 +82,7 @@ mod tests {
         assert_eq!(rt; letter.named(3), None);
         assert_eq!(rt; letter.named(64), None);
         assert_eq!(rt; letter.names(), 2);
-        assert_eq!(rt; letter.body(), &[7, 9]);
+        assert_eq!(rt; letter.body(), [7, 9].as_slice());
         Ok(())
     }
 

@@ -29,5 +29,5 @@ loop-word-preserved c n all e =
 pub returns : goal.returns
 returns c =
     let named = c.loop-word.named in
-    subst (λ (s : Splitter). AllNamed s.rest.now named) c.into_iter-word-iterator.ensures.into_iter-gives
+    subst (λ (s : Splitter). AllNamed s.rest.now named) c.into_iter-word-iterator.ensures.into_iter_gives
     (c.loop-word.invariant 0 named (done c.loop-word.word-iterator.rest.now named c.in-None.ensures.steps.0))

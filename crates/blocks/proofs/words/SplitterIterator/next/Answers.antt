@@ -35,5 +35,5 @@ returns-else-is_empty c =
     let after = after_is xs n m c.leading_blanks.ensures.value c.word_length.ensures.value in
     let some = eqb-false (length c.split_at.result.0.now) 0 (sym c.if-is_empty.ensures) in
     let whole = ap length (take_rest xs n) in
-    let less : length c.split_at.result.1.now < length xs = omega (arith, c.split_at.ensures.back_len, c.split_at.ensures.front-len, length-drop n xs) in
+    let less : length c.split_at.result.1.now < length xs = omega (arith, c.split_at.ensures.back_len, c.split_at.ensures.front_len, length-drop n xs) in
     record { steps = (c.split_at.ensures.front ∙ word, c.split_at.ensures.back ∙ after); goes = firm ((tt, tt, less)) (λ h. search rules) }
