@@ -2,5 +2,4 @@ pub mod Shares
 pub mod Turns
 pub mod Reels
 pub mod Trays
-pub mod Carrying
-pub mod TrayCarrierLemmas
+pub mod Lawfulness

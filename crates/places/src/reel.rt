@@ -5,8 +5,7 @@ ghost use Rattle.places.specs.Reels.{reel_waits, reel_limits};
 ghost use Rattle.places.specs.Shares.{Queued};
 ghost use Rattle.places.specs.Turns.{ByTurn};
 ghost use Rattle.places.specs.declared.turns.Turn.TheVariants.{Oldest};
-ghost use Rattle.std.proofs.Common.{arith};
-ghost use Rattle.places.specs.Carrying.{lawful_held};
+ghost use Rattle.places.specs.Lawfulness.{reel_lawful};
 
 use crate::shares::Shares;
 use block::Block;
@@ -39,7 +38,7 @@ impl Carrier for Reel {
 
     ghost limit = { reel_limits };
 
-    ghost lawful = { λ c s. lawful_held 4 c.shares.runs c.places (omega arith) (omega arith) s };
+    ghost lawful = { λ c s. reel_lawful c.shares.runs c.places s };
 
     fn count(&self, station: u8) -> usize {
         self.shares.length(&self.places, EACH, station)

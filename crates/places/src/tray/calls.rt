@@ -4,8 +4,7 @@ ghost use Rattle.carrier.specs.Meaning.{Puts, Takes};
 ghost use Rattle.places.specs.Shares.{Queued};
 ghost use Rattle.places.specs.Trays.{eighth, tray_waits, tray_limits, tray_accepts, turn_of, TrayMade};
 ghost use Rattle.places.specs.Turns.{ByTurn, turn_after};
-ghost use Rattle.places.specs.Carrying.{lawful_held};
-ghost use Rattle.places.specs.TrayCarrierLemmas.{low, high};
+ghost use Rattle.places.specs.Lawfulness.{tray_lawful};
 
 use crate::shares::Shares;
 use crate::tray::Tray;
@@ -71,7 +70,7 @@ impl Carrier for Tray {
 
     ghost limit = { tray_limits };
 
-    ghost lawful = { λ c s. lawful_held (eighth (vec_len c.memory)) c.shares.runs c.memory.items (low _ c.enough) (high _) s };
+    ghost lawful = { λ c s. tray_lawful (vec_len c.memory) c.enough c.shares.runs c.memory.items s };
 
     fn count(&self, station: u8) -> usize {
         self.shares

@@ -1,5 +1,5 @@
 use Rattle.std.proofs.Common.{refl}
-use Rattle.places.specs.Carrying.{puts_queued}
+use Rattle.places.proofs.Carrying.{puts_queued}
 use Rattle.places.proofs.reel.ReelCarrier.put.Goals as goal
 
 pub returns : goal.returns

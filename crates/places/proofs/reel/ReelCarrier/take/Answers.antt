@@ -1,7 +1,7 @@
 use Rattle.std.proofs.Common.{refl}
 use Rattle.places.specs.declared.turns.Turn.TheVariants.{Oldest}
 use Rattle.places.specs.Reels.{reel_waits, reel_limits}
-use Rattle.places.specs.Carrying.{takes_by_turn}
+use Rattle.places.proofs.Carrying.{takes_by_turn}
 use Rattle.places.proofs.reel.ReelCarrier.take.Goals as goal
 
 pub returns : goal.returns

@@ -3,7 +3,7 @@ use Rattle.std.proofs.lemmas.List.{with_items_is}
 use Rattle.carrier.specs.Bags.{Block}
 use Rattle.carrier.specs.Meaning.{Puts}
 use Rattle.places.specs.Shares.{held, room, Queued}
-use Rattle.places.specs.Carrying.{puts_queued, shown}
+use Rattle.places.proofs.Carrying.{puts_queued, shown}
 use Rattle.places.proofs.tray.calls.TrayCarrier.put.Goals as goal
 
 pub returns : goal.returns

@@ -6,7 +6,7 @@ use Rattle.places.specs.Shares.{held, TakenAt}
 use Rattle.places.specs.Trays.{eighth, tray_waits, tray_limits, turn_of}
 use Rattle.places.specs.Turns.{place_of}
 use Rattle.places.proofs.Sharing.{held_below}
-use Rattle.places.specs.Carrying.{takes_by_turn, shown}
+use Rattle.places.proofs.Carrying.{takes_by_turn, shown}
 use Rattle.places.proofs.tray.calls.TrayCarrier.take.Goals as goal
 
 pub returns-then-count-eq0 : goal.returns-then-count-eq0

@@ -1,33 +1,16 @@
 -- From what a carrier does with its lists to what it means for bags.
-use Rattle.std.specs.Prelude.{◌≡◌, ℕ, suc, ◌+◌, ◌≤◌, min, List, [], ◌∷◌, ◌++◌, length, take, Some, None, Ok, Err, Option, Result, ◌≢◌, nat_lt, slice_index_or, refl}
-use Rattle.std.proofs.Common.{arith, ⊎_elim, sym, ap, subst, ◌∙◌}
+use Rattle.std.proofs.Common.{◌≡◌, ℕ, suc, ◌+◌, ◌≢◌, List, [], ◌∷◌, ◌++◌, length, take, Some, None, Ok, Err, Option, Result, slice_index_or, refl, arith, sym, ap, subst, ◌∙◌}
 use Rattle.std.specs.List.{remove}
-use Rattle.std.proofs.lemmas.List.{length-take, take_more, take_all, drop_all, append-nil, nil_from_length}
-use Rattle.std.proofs.lemmas.Bool.{lt-ltb, le-ltb, ne_eqb, eq-eqb, cases_lt, cond-true, cond-false, cond_both}
-use Rattle.run.specs.declared.Run.{Run}
+use Rattle.std.proofs.lemmas.List.{take_more, take_all, drop_all, append-nil, nil_from_length}
+use Rattle.std.proofs.lemmas.Bool.{ne_eqb, eq-eqb, cond-true, cond-false}
 use Rattle.carrier.specs.declared.faults.CarrierFault.{CarrierFault}
 use Rattle.places.specs.declared.turns.Turn.{Turn}
 use Rattle.places.specs.declared.turns.Turn.TheVariants.{Newest, Oldest}
 use Rattle.carrier.specs.Bags.{Block, Bags, OneMore, this}
-use Rattle.carrier.specs.Meaning.{Lawful, Puts, PutOwn, put_answer, Takes, TakeOwn, take_answer}
-use Rattle.places.specs.Shares.{held, room, Queued, TakenAt}
+use Rattle.carrier.specs.Meaning.{Puts, PutOwn, put_answer, Takes, TakeOwn, take_answer}
+use Rattle.places.specs.Shares.{Queued, TakenAt}
 use Rattle.places.specs.Turns.{place_of, ByTurn}
 use Rattle.carrier.proofs.Bagging.{more_at_end}
-
--- what holds at all times, where each station has from 1 to 1,000 places
-pub lawful_held : (each : ℕ) (runs : List Run) (places : List Block) → 1 ≤ each → each ≤ 1000 → (s : ℕ) → Lawful s (room each s) (held each runs places s)
-lawful_held each runs places low high s = record {
-  low = λ h. rw (lt-ltb s 8 h) low;
-  high = cond_both (nat_lt s 8) each 0 (λ n. n ≤ 1000) (λ _. high) (λ _. omega arith);
-  above = λ h. cond-false _ _ _ (le-ltb s 8 h);
-  within = ⊎_elim
-      (λ h. let e = lt-ltb s 8 h in simp (e, length-take) (few _ _ _))
-      (λ h. let e = le-ltb s 8 h in simp e (omega arith))
-      (cases_lt s 8);
-}
-  where
-    few : (n m k : ℕ) → min n (min m k) ≤ m
-    few n m k = omega arith
 
 -- a put that lists its block as the newest
 pub puts_queued : (s : ℕ) (b : Block) (r : Result (Unit {0}) CarrierFault) (before after : Bags) (limit limit' : ℕ → ℕ)
