@@ -61,8 +61,8 @@ JOINED = {
     "present-named-of": "present-named_of",
 }
 
-# names of the repository that stay, since they join the names of two definitions already
-KEPT = "below-present big-wide fit-fit length-big length-fit length-lead length-low length-numbers length-single length-upper length-zeros present-append wide-big"
+# Names that join the names of two definitions already, and stay: below-present, big-wide, fit-fit, length-big, length-fit,
+# length-lead, length-low, length-numbers, length-single, length-upper, length-zeros, present-append, wide-big.
 
 
 def table():

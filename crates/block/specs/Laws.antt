@@ -1,13 +1,13 @@
 -- What holds between letters and blocks, and the worked examples.
---   Typed         a table of 64 entries, and a body of bytes
+--   Typed        a table of 64 entries, and a body of bytes
 --   ReadsBack    what was written reads back as the same letter
 --   WritesBack   what was read is written as the same 512 bytes
 --   OneBlock     each letter has just one block
 --   OneLetter    two letters with one block are one letter
---   Corresponds   these four
---   first         letter 1.0.1
---   second        letter 3.1.1
---   Examples      the worked examples
+--   Corresponds  these four
+--   first        letter 1.0.1
+--   second       letter 3.1.1
+--   Examples     the worked examples
 use Rattle.std.specs.Prelude.{◌≡◌, ℕ, List, [], ◌∷◌, length, replicate, Some, None, Ok, Err, slice_set}
 use Rattle.block.specs.declared.faults.BlockFault.TheVariants.{Kind}
 use Rattle.block.specs.Faults.{number_of, place_of}

@@ -1,9 +1,9 @@
 -- Which pairs are named: the mask, and the place of a named pair's number.
---   bit       whether a mask names a pair
---   below     how many pairs below one a mask names
---   flag      whether a table's entry holds a number
---   mask_of   the mask of a table's entries
---   present   the numbers that a table holds, by ascending pair
+--   bit      whether a mask names a pair
+--   below    how many pairs below one a mask names
+--   flag     whether a table's entry holds a number
+--   mask_of  the mask of a table's entries
+--   present  the numbers that a table holds, by ascending pair
 use Rattle.std.specs.Prelude.{ℕ, zero, suc, ◌+◌, ◌*◌, ◌/◌, ◌%◌, ◌^◌, List, [], ◌∷◌, Some, None, Option, slice_index_or}
 
 -- 1 where the mask names pair k, else 0: the mask's bit of value 2^k

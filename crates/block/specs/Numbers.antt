@@ -1,9 +1,9 @@
 -- Numbers of several bytes, most significant byte first.
---   wide      the number that some bytes of a list write
---   big       the bytes that write a number
---   Bytes     every entry of a list is a byte
---   zeros     zeros
---   fit       a list of bytes with zeros up to a length
+--   wide   the number that some bytes of a list write
+--   big    the bytes that write a number
+--   Bytes  every entry of a list is a byte
+--   zeros  zeros
+--   fit    a list of bytes with zeros up to a length
 use Rattle.std.specs.Prelude.{ℕ, zero, suc, ◌+◌, ◌-◌, ◌*◌, ◌/◌, ◌%◌, ◌<◌, List, [], ◌∷◌, ◌++◌, length, replicate, slice_index}
 
 -- the number that the n bytes of xs from place k write

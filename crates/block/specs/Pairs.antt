@@ -1,6 +1,6 @@
 -- Pairs: one station on one channel, by number.
---   pair_of   the pair of a name
---   of_pair   the name of a pair's letter
+--   pair_of  the pair of a name
+--   of_pair  the name of a pair's letter
 use Rattle.std.specs.Prelude.{ℕ, ◌+◌, ◌*◌, ◌/◌, ◌%◌}
 use Rattle.block.specs.declared.names.Name.{Name}
 

@@ -1,10 +1,10 @@
 -- A letter as its parts, and the parts that the bytes of a block say.
---   Parts      name, named numbers by pair, body
---   parts      a letter of these parts
---   named_in   the number that a block has for a pair
---   named_of   the named numbers of a block, by pair
---   name_of    the name that a block's bytes say
---   parts_of   the parts that a block's bytes say
+--   Parts     name, named numbers by pair, body
+--   parts     a letter of these parts
+--   named_in  the number that a block has for a pair
+--   named_of  the named numbers of a block, by pair
+--   name_of   the name that a block's bytes say
+--   parts_of  the parts that a block's bytes say
 use Rattle.std.specs.Prelude.{ℕ, ◌+◌, ◌*◌, cond, List, map, Some, None, Option, ◌==◌, slice_index}
 use Rattle.std.specs.List.{between, range_with_len}
 use Rattle.block.specs.declared.names.Name.{Name}

@@ -1,10 +1,10 @@
 -- The block of a letter, and what writing one answers.
---   head       the first 24 bytes
---   numbers    the named numbers
---   front      the first 508 bytes
---   block_of   all 512
---   roomy      the length of the memory
---   writing    the block, or the first fault in the order of checks
+--   head      the first 24 bytes
+--   numbers   the named numbers
+--   front     the first 508 bytes
+--   block_of  all 512
+--   roomy     the length of the memory
+--   writing   the block, or the first fault in the order of checks
 use Rattle.std.specs.Prelude.{ℕ, cond, List, [], ◌∷◌, ◌++◌, length, Ok, Err, Option, Result, ◌==◌}
 use Rattle.std.specs.List.{flat_map}
 use Rattle.block.specs.declared.names.Name.{Name}

@@ -1,6 +1,6 @@
 -- What is answered to a command.
 --   written   the answer to a letter
---   ReadAs   that an answer is right for the bytes of a block
+--   ReadAs    that an answer is right for the bytes of a block
 --   Answered  that an answer is right for a command
 use Rattle.std.specs.Prelude.{◌≡◌, ℕ, List, Ok, Err, Result}
 use Rattle.block.specs.declared.faults.BlockFault.{BlockFault}

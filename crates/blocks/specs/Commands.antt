@@ -12,7 +12,7 @@
 --   contents      the bytes in a buffer
 --   read_as       the same of an answer
 --   Entered       that some words of a text fill a table of names
---   AllNamed     that all words of a text do
+--   AllNamed      that all words of a text do
 --   Drafted       that the words of a text write a letter
 --   Asked         that a line asks for a command
 use Rattle.std.specs.Prelude.{◌≡◌, ℕ, zero, suc, ◌+◌, ◌-◌, ◌≤◌, Bool, cond, ◌&&◌, List, [], ◌∷◌, length, take, replicate, Some, None, Ok, Err, Option, Result, ◌==◌, nat_le, nat_lt, slice_index, slice_index_or, slice_set}

@@ -1,6 +1,6 @@
 -- Bags of blocks: what waits for a station, as a list whose order means nothing.
---   Block        a block, as the list of its bytes
---   Bags         for each station number, its bag
+--   Block       a block, as the list of its bytes
+--   Bags        for each station number, its bag
 --   OneMore     one bag is another with one more copy of a block
 --   SameBag     two bags have the same blocks, each as many times
 --   CountsOnce  one more copy of a block counts once, whatever is counted

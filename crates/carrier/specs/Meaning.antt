@@ -1,10 +1,10 @@
 -- The meaning of a carrier: for each station number a limit and a bag of waiting blocks, and what its calls do to them.
 --   Lawful       what always holds of a station's limit and bag
 --   put_answer   what a put answers
---   PutOwn      what a put leaves of its station's bag, by its answer
+--   PutOwn       what a put leaves of its station's bag, by its answer
 --   Puts         all that a put does
 --   take_answer  what a take answers
---   TakeOwn     what a take leaves of its station's bag and of the caller's 512 bytes, by its answer
+--   TakeOwn      what a take leaves of its station's bag and of the caller's 512 bytes, by its answer
 --   Takes        all that a take does
 use Rattle.std.specs.Prelude.{◌≡◌, ℕ, ◌<◌, ◌≤◌, cond, List, length, Some, None, Ok, Err, Option, Result, ◌==◌, ◌≢◌}
 use Rattle.carrier.specs.Bags.{Block, Bags, OneMore}

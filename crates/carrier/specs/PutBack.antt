@@ -1,6 +1,6 @@
 -- A take whose block is put back.
 --   PutBackOwn  what it leaves of its station's bag and of the caller's 512 bytes, by its answer
---   PutsBack     all that it does
+--   PutsBack    all that it does
 use Rattle.std.specs.Prelude.{◌≡◌, ℕ, List, length, Some, None, Option, ◌≢◌}
 use Rattle.carrier.specs.Bags.{Block, Bags, OneMore, SameBag}
 use Rattle.carrier.specs.Meaning.{take_answer}

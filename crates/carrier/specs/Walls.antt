@@ -1,7 +1,7 @@
 -- What a wall shows: for each station number the waiting blocks and the limit of the side that it uses.
---   by_side          of two things, the first for the stations of a set and the second for all other numbers
---   wall_waits       the waiting blocks
---   wall_limits      the limits
+--   by_side        of two things, the first for the stations of a set and the second for all other numbers
+--   wall_waits     the waiting blocks
+--   wall_limits    the limits
 --   OtherSideKept  a call for a station leaves the side that it does not use, and the set, as they were
 use Rattle.std.specs.Prelude.{◌≡◌, ℕ, cond, MatchBool}
 use Rattle.carrier.specs.Bags.{Bags}

@@ -4,7 +4,7 @@
 --   held       the records of a station, from the oldest to the newest
 --   room       how many records a station may have
 --   Queued     what adding a record leaves of its station's records, by its answer
---   TakenAt   what taking one leaves of them and of the caller's record, by its answer
+--   TakenAt    what taking one leaves of them and of the caller's record, by its answer
 use Rattle.std.specs.Prelude.{◌≡◌, ℕ, ◌*◌, ◌<◌, ◌≤◌, cond, List, [], ◌∷◌, ◌++◌, length, take, drop, Some, None, Ok, Err, Option, Result, nat_lt, slice_index_or}
 use Rattle.std.specs.List.{remove}
 use Rattle.run.specs.declared.Run.{Run}

@@ -4,7 +4,7 @@
 --   tray_limits   the eighth for stations 0 to 7, and 0 above
 --   turn_of       which block the next take for a station hands over
 --   tray_accepts  whether a memory of so many blocks is enough
---   TrayMade     a tray as it is made of a memory
+--   TrayMade      a tray as it is made of a memory
 use Rattle.std.specs.Prelude.{◌≡◌, ℕ, ◌/◌, min, cond, [], Ok, Err, vec_items, vec_len, Result, Vec, nat_lt, slice_index_or}
 use Rattle.std.specs.declared.alloc.Global.{Global}
 use Rattle.carrier.specs.Bags.{Block, Bags}

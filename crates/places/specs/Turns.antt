@@ -2,7 +2,7 @@
 --   other       the turn after a turn
 --   place_of    where the block of a turn is among so many
 --   turn_after  the turn after a take, by its answer
---   ByTurn     a take hands over the newest or the oldest, by turn
+--   ByTurn      a take hands over the newest or the oldest, by turn
 use Rattle.std.specs.Prelude.{◌≡◌, ℕ, ◌-◌, List, [], ◌∷◌, ◌++◌, Some, None, Option}
 use Rattle.carrier.specs.Bags.{Block}
 use Rattle.places.specs.declared.turns.Turn.{Turn}
