@@ -6,7 +6,6 @@ mod shares;
 mod tray;
 mod turns;
 
-use carrier::Carrier;
 pub use reel::Reel;
 pub use tray::{Tray, Unmade};
 
