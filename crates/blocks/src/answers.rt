@@ -5,9 +5,13 @@ ghost use Rattle.blocks.specs.Answers.{Answered};
 
 use crate::commands::{Command, Misread};
 use crate::hex::{Bytes, HexBytes};
+use crate::lines::LONGEST_LINE;
 use block::{Block, BlockFault, Letter, Name};
-use std::io::Write;
+use std::io::{Cursor, Write};
 use std::{fmt, io};
+
+// The longest answer, in bytes: a comment of the longest line, repeated, and the end of its line.
+const LONGEST_ANSWER: usize = LONGEST_LINE + 1;
 
 // What is answered to a line.
 #[derive(Drop)]
@@ -42,8 +46,16 @@ impl Answer {
         }
     }
 
-    // Writes the answer and the end of its line.
+    // Writes the answer and the end of its line, in one piece, which is gathered in fixed memory.
     pub fn write_line<W: Write>(&self, out: &mut W) -> io::Result<()> {
+        let mut line = Cursor::new([0u8; LONGEST_ANSWER]);
+        self.gather(&mut line)?;
+        let count = line.position().min(LONGEST_ANSWER as u64) as usize;
+        out.write_all(&line.get_ref()[0..count])
+    }
+
+    // Writes the answer and the end of its line, piece by piece.
+    fn gather<W: Write>(&self, out: &mut W) -> io::Result<()> {
         match self {
             Answer::Same(line) => out.write_all(line.as_slice())?,
             Answer::Written(block) => {
@@ -115,4 +127,40 @@ fn check_of(block: &Block) -> u32
     ensures { result ≡ wide 4 block.now 508 }
 {
     u32::from_be_bytes([block[508], block[509], block[510], block[511]])
+}
+
+// The longest answers find room.
+#[cfg(test)]
+mod tests {
+    use super::*;
+    use block::{Named, write};
+    use std::test::Fail;
+
+    #[test]
+    fn longest_comment_finds_room(rt: HostRuntime) -> Result<(), Fail> {
+        let comment = Answer::Same(Bytes::copy_of(&[b'#'; 4096]));
+        let mut out = Cursor::new([0u8; 5000]);
+        comment.write_line(&mut out)?;
+        assert_eq!(rt; out.position(), 4097);
+        Ok(())
+    }
+
+    #[test]
+    fn fullest_letter_finds_room(rt: HostRuntime) -> Result<(), Fail> {
+        let name = Name {
+            station: 7,
+            channel: 7,
+            number: 1_000_000,
+        };
+        let named: Named = [Some(1_000_000); 64];
+        let mut block: Block = [0; 512];
+        write(name, &named, &[255; 224], &mut block)?;
+        let mut out = Cursor::new([0u8; 5000]);
+        Answer::Written(block).write_line(&mut out)?;
+        assert_eq!(rt; out.position(), 1025);
+        let mut listed = Cursor::new([0u8; 5000]);
+        Answer::Found(Letter::read(&block)?).write_line(&mut listed)?;
+        assert_eq!(rt; listed.position(), 1288);
+        Ok(())
+    }
 }

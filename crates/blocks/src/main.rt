@@ -10,7 +10,7 @@ use answers::Answer;
 use commands::{Command, Misread};
 use lines::Line;
 use std::io;
-use std::io::{BufWriter, Read, Write};
+use std::io::{Read, Write};
 
 mod answers;
 mod commands;
@@ -48,7 +48,7 @@ fn feed<W: Write>(chunk: &[u8], line: &mut Line, out: &mut W) -> io::Result<()> 
 // Answers the whole input; the count of turns only says that the loop ends.
 fn run(rt: &HostRuntime) -> io::Result<()> {
     let mut input = rt.stdin();
-    let mut out = BufWriter::new(rt.alloc(), rt.stdout())?;
+    let mut out = rt.stdout();
     let mut line = Line::new();
     let mut chunk = [0u8; 8192];
     for _ in 0..u64::MAX {
