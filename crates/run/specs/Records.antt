@@ -1,17 +1,21 @@
 -- The records of a run as a list, and what adding and removing do to them.
---   records   the records of a run, from the first to the last
---   Added     a record was added at the end
---   Filled    each place holds a record, and nothing changed
---   Removed   the record at a place was removed, and later ones moved down by one
---   Missing   no record is at the place, and nothing changed
---   Adding    what adding does, by its answer
---   Removing  what removing does, by its answer
---   Reading   the record at a place, or none past the last
+--   empty_run  the run with no record
+--   records    the records of a run, from the first to the last
+--   Added      a record was added at the end
+--   Filled     each place holds a record, and nothing changed
+--   Removed    the record at a place was removed, and later ones moved down by one
+--   Missing    no record is at the place, and nothing changed
+--   Adding     what adding does, by its answer
+--   Removing   what removing does, by its answer
+--   Reading    the record at a place, or none past the last
 use Rattle.std.specs.Prelude.{◌≡◌, ℕ, ◌+◌, ◌<◌, ◌≤◌, List, [], ◌∷◌, ◌++◌, length, take, drop, Some, None, Ok, Err, Option, Result, slice_index_or}
 use Rattle.std.specs.Borrow.{Bor}
 use Rattle.std.specs.List.{remove}
 use Rattle.run.specs.declared.Run.{Run}
 use Rattle.run.specs.declared.Full.{Full}
+
+abbrev pub empty_run : Run
+empty_run = record { len = 0 }
 
 -- the first places, as many as the run counts; all of them where there are fewer
 abbrev pub records : {X : Type 0} → Run → List X → List X

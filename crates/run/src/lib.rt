@@ -2,10 +2,11 @@
 #![tactic(auto)]
 
 ghost use Rattle.std.specs.Prelude.{◌≡◌, ◌≤◌, length};
-ghost use Rattle.run.specs.Records.{records, Adding, Removing, Reading};
+ghost use Rattle.run.specs.Records.{empty_run, records, Adding, Removing, Reading};
 
 // A run (sequence in fixed memory): how many of the places, from the first on, hold a record.
 // Where it counts more than there are places, all of them hold one.
+// Kept: a count beside lent places, since memory is fixed and the caller's, and a run is over a slice of any element type.
 #[derive(Clone, Copy)]
 pub struct Run {
     len: usize,
@@ -18,7 +19,7 @@ pub struct Full;
 impl Run {
     // The run with no record.
     pub const fn new() -> Run
-        ensures { result.len ≡ 0 }
+        ensures { result ≡ empty_run }
     {
         Run { len: 0 }
     }
@@ -35,11 +36,7 @@ impl Run {
     pub fn get<'a, T>(&self, places: &'a [T], at: usize) -> Option<&'a T>
         ensures { Reading result at (records self.now places.now) }
     {
-        if at < self.len && at < places.len() {
-            Some(&places[at])
-        } else {
-            None
-        }
+        places[..self.length(places)].get(at)
     }
 
     // Adds a record at the end.
@@ -47,6 +44,7 @@ impl Run {
         ensures { Adding result «record» self.old self.new places.old places.new }
     {
         let end = self.len;
+        // Kept: a test and an index, since no proof knows the elements of a slice that was written through `get_mut`.
         if end >= places.len() {
             return Err(Full);
         }
@@ -59,16 +57,10 @@ impl Run {
     pub fn remove<T: Copy>(&mut self, places: &mut [T], at: usize) -> Option<T>
         ensures { Removing result at self.old self.new places.old places.new }
     {
+        let record = *self.get(places, at)?;
         let count = self.length(places);
-        if at >= count {
-            return None;
-        }
-        let record = places[at];
-        let last = count - 1;
-        for i in at..last {
-            places[i] = places[i + 1];
-        }
-        self.len = last;
+        places.copy_within(at + 1..count, at);
+        self.len = count - 1;
         Some(record)
     }
 }
