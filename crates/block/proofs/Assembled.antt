@@ -1,5 +1,6 @@
 -- The pieces of a block laid one after the other are the block.
-use Rattle.std.proofs.Common.{◌≡◌, ℕ, List, ◌++◌, length, Ok, refl, ap, ◌∙◌, arith}
+use Rattle.std.proofs.lemmas.Grind.{common_steps}
+use Rattle.std.proofs.Common.{◌≡◌, ℕ, List, ◌++◌, length, Ok, refl, ◌∙◌, arith}
 use lib.Seq.{paste}
 use Rattle.std.proofs.lemmas.List.{length-append}
 use Rattle.block.specs.Numbers.{big, zeros, fit}
@@ -18,16 +19,15 @@ module _ (p : Parts) (t : Typed p) (fits : head_fits p.name (length p.body) ≡ 
   -- the body, laid after the head and the named numbers
   pub body_laid : (m : List ℕ) → m ≡ fit 512 (low p) → paste m 280 p.body (length p.body) ≡ fit 512 (upper p ++ p.body)
   body_laid m e =
-      let h = head_was p.name (length p.body) fits in
-      laid_past m p.body (low p) p.body 280 e refl (omega (arith, length-low p t fits, few p t fits)) (omega (arith, h.3))
+      grind (arith, common_steps, head_was p.name (length p.body) fits, laid_past m p.body (low p) p.body 280 e refl, length-low p t fits, few p t fits)
 
   -- the check of what is laid so far
   pub check_laid : (m : List ℕ) → m ≡ fit 512 (upper p ++ p.body) → weighted m 508 ≡ weighted (front p) 508
   unfolding front
   check_laid m e =
       let h = head_was p.name (length p.body) fits in
-      ap (λ (xs : List ℕ). weighted xs 508) (e ∙ fit-fit 508 512 (upper p ++ p.body) (omega (arith, h.3, length_filled p t fits)) (omega arith))
-      ∙ weighted_left 508 (front p) (zeros 4) (omega (arith, length_front p t fits))
+      let filled = length_filled p t fits in
+      grind (arith, common_steps, h, filled, fit-fit 508 512 (upper p ++ p.body), weighted_left 508 (front p) (zeros 4), length_front p t fits)
 
   -- the check, laid last
   pub block_laid : (m ps : List ℕ) → m ≡ fit 512 (upper p ++ p.body) → ps ≡ big 4 (weighted (front p) 508) → paste m 508 ps (length ps) ≡ block_of p

@@ -1,34 +1,28 @@
 -- What was read is written as the same bytes.
-use Rattle.std.proofs.Common.{◌≡◌, ℕ, ◌+◌, ◌-◌, ◌*◌, ◌≤◌, true, eqb, List, ◌∷◌, ◌++◌, length, get_or, take, drop, is_ok, Ok, Err, Result, sym, refl, ap, ◌∙◌, ap₂, zero-add, arith}
+use Rattle.std.proofs.Common.{◌≡◌, ℕ, ◌+◌, ◌-◌, ◌*◌, ◌≤◌, eqb, List, ◌++◌, length, get_or, take, drop, Ok, sym, ap, ◌∙◌, ap₂, zero-add, arith}
 use Rattle.std.specs.List.{flat_map}
-use Rattle.std.proofs.lemmas.Bool.{eqb-true, false≢true}
-use Rattle.block.specs.declared.faults.BlockFault.{BlockFault}
+use Rattle.std.proofs.lemmas.Bool.{eqb-true}
 use Rattle.block.specs.declared.faults.BlockFault.TheVariants.{Length, Check, Kind}
 use Rattle.block.specs.Numbers.{wide, big, Bytes, zeros, fit}
 use Rattle.block.specs.Sum.{weighted}
-use Rattle.block.specs.Mask.{mask_of, present}
+use Rattle.block.specs.Mask.{mask_of}
 use Rattle.block.specs.Parts.{Parts, parts_of, name_of, named_of}
 use Rattle.block.specs.Reading.{head_fits, numbers_fit, numbers_from, zeros_in, framed, ranged, cleared, count_in, reading}
 use Rattle.block.specs.Writing.{head, numbers, front, block_of, writing}
+use Rattle.block.specs.Readable.{Readable}
 use Rattle.block.specs.Laws.{WritesBack}
 use Rattle.block.proofs.Places.{below_le}
-use Rattle.block.proofs.Wide.{wide_lt}
+use Rattle.std.proofs.lemmas.List.{length-append}
+use Rattle.std.proofs.lemmas.Grind.{common_steps}
+use Rattle.block.proofs.Wide.{length-big, wide_lt}
 use Rattle.block.proofs.Cuts.{cut, cut_cons, cut_append, cut_whole, length_cut, big-wide, numbers_cut}
 use Rattle.block.proofs.Tables.{present-named_of, mask_of-named_of}
 use Rattle.block.proofs.Checks.{bind_ok, bind_was, test_was, head_was, zeros_cut}
 use Rattle.block.proofs.Sums.{weighted_left}
 
--- a block that is readable says its parts, and no others
-pub readable : (xs : List ℕ) → is_ok (reading xs) ≡ true → reading xs ≡ Ok (parts_of xs)
-readable xs h = go (reading xs) refl h
-  where
-    go : (r : Result Parts BlockFault) → reading xs ≡ r → is_ok r ≡ true → reading xs ≡ Ok (parts_of xs)
-    go (Ok p) e t =
-        let f = bind_was (framed xs) _ p e in
-        let r = bind_was (ranged xs) _ p f.2 in
-        let z = bind_was (cleared xs) _ p r.2 in
-        e ∙ sym z.2
-    go (Err x) e t = absurd (false≢true t)
+-- a block that passes all checks says its parts
+pub says_parts : (xs : List ℕ) → framed xs ≡ Ok tt → ranged xs ≡ Ok tt → cleared xs ≡ Ok tt → reading xs ≡ Ok (parts_of xs)
+says_parts xs f r z = bind_ok (framed xs) _ tt f ∙ bind_ok (ranged xs) _ tt r ∙ bind_ok (cleared xs) _ tt z
 
 -- what a block that passed says of its bytes
 pub record Passed (xs : List ℕ) : Type 0 where
@@ -81,7 +75,7 @@ module _ (xs : List ℕ) (b : Bytes xs) (s : Passed xs) where
   body_cut = let e : 280 + get_or xs 8 0 - 280 ≡ get_or xs 8 0 = omega arith in ap (λ (n : ℕ). take n (drop 280 xs)) e
 
   body_length : length (parts_of xs).body ≡ get_or xs 8 0
-  body_length = ap length body_cut ∙ length_cut xs 280 (get_or xs 8 0) (omega (arith, s.long, short))
+  body_length = grind (arith, common_steps, body_cut, length_cut xs 280 (get_or xs 8 0) (omega (arith, s.long, short)))
 
   -- the head
   mask_same : mask_of (named_of xs) 64 ≡ wide 8 xs 16
@@ -91,17 +85,12 @@ module _ (xs : List ℕ) (b : Bytes xs) (s : Passed xs) where
   unfolding zeros
   lead_cut =
       let long = s.long in
-      let from-16 : big 8 (mask_of (named_of xs) 64) ≡ cut xs 16 8 = ap (big 8) mask_same ∙ big-wide 8 xs 16 b (omega arith) in
-      let from-9 : zeros 7 ++ big 8 (mask_of (named_of xs) 64) ≡ cut xs 9 15 =
-      ap₂ (λ (ys zs : List ℕ). ys ++ zs) (zeros_cut 7 xs 9 (omega arith) s.reserved) from-16 ∙ cut_append 7 xs 9 8 (omega arith) in
-      let from-8 : length (parts_of xs).body ∷ (zeros 7 ++ big 8 (mask_of (named_of xs) 64)) ≡ cut xs 8 16 =
-      ap₂ (λ (y : ℕ) (ys : List ℕ). y ∷ ys) body_length from-9 ∙ cut_cons xs 8 15 (omega arith) in
-      let from-4 : big 4 (wide 4 xs 4) ++ (length (parts_of xs).body ∷ (zeros 7 ++ big 8 (mask_of (named_of xs) 64))) ≡ cut xs 4 20 =
-      ap₂ (λ (ys zs : List ℕ). ys ++ zs) (big-wide 4 xs 4 b (omega arith)) from-8 ∙ cut_append 4 xs 4 16 (omega arith) in
-      let from-3 = ap (λ (ys : List ℕ). get_or xs 3 0 ∷ ys) from-4 ∙ cut_cons xs 3 20 (omega arith) in
-      let from-2 = ap (λ (ys : List ℕ). get_or xs 2 0 ∷ ys) from-3 ∙ cut_cons xs 2 21 (omega arith) in
-      let from-1 = ap₂ (λ (y : ℕ) (ys : List ℕ). y ∷ ys) (sym s.edition) from-2 ∙ cut_cons xs 1 22 (omega arith) in
-      ap₂ (λ (y : ℕ) (ys : List ℕ). y ∷ ys) (sym s.kind) from-1 ∙ cut_cons xs 0 23 (omega arith)
+      let zero = zeros_cut 7 xs 9 (omega arith) s.reserved in
+      let join-16 = cut_append 7 xs 9 8 (omega arith) in
+      let join-8 = cut_append 4 xs 4 16 (omega arith) in
+      let mask = big-wide 8 xs 16 b (omega arith) in
+      let number = big-wide 4 xs 4 b (omega arith) in
+      grind (arith, s.kind, s.edition, body_length, mask_same, zero, join-16, join-8, mask, number, cut_cons xs)
 
   -- and on, piece by piece
   numbers_same : numbers (named_of xs) ≡ cut xs 24 (4 * count_in xs)
@@ -113,10 +102,8 @@ module _ (xs : List ℕ) (b : Bytes xs) (s : Passed xs) where
   -- a front of the block, filled up with the zeros that follow it there
   fit_cut : (m n : ℕ) (ys : List ℕ) → m ≤ n → n ≤ 512 → ys ≡ cut xs 0 m → zeros_in xs m (n - m) ≡ Ok tt → fit n ys ≡ cut xs 0 n
   fit_cut m n ys h k e z =
-      let long : n - length ys ≡ n - m = ap (λ (zs : List ℕ). n - length zs) e ∙ ap (λ (j : ℕ). n - j) (length_cut xs 0 m (omega (arith, s.long))) in
-      let sum : m + (n - m) ≡ n = omega arith in
-      ap₂ (λ (zs : List ℕ) (j : ℕ). zs ++ zeros j) e long ∙ ap (λ (zs : List ℕ). cut xs 0 m ++ zs) (zeros_cut (n - m) xs m (omega (arith, s.long)) z)
-      ∙ ap (λ (j : ℕ). cut xs 0 m ++ cut xs j (n - m)) (sym (zero-add m)) ∙ cut_append m xs 0 (n - m) (omega (arith, s.long)) ∙ ap (cut xs 0) sum
+      let long = s.long in
+      grind (arith, zero-add m, length_cut xs 0 m (omega arith), zeros_cut (n - m) xs m (omega arith) z, cut_append m xs 0 (n - m) (omega arith))
 
   front_cut : front (parts_of xs) ≡ cut xs 0 508
   unfolding front
@@ -128,17 +115,23 @@ module _ (xs : List ℕ) (b : Bytes xs) (s : Passed xs) where
   pub block_same : block_of (parts_of xs) ≡ xs
   block_same =
       let long = s.long in
-      let whole = cut_append 508 xs 0 4 (omega arith) ∙ cut_whole xs 512 long in
-      let sum : weighted (cut xs 0 508) 508 ≡ wide 4 xs 508 =
-      sym (weighted_left 508 (cut xs 0 508) (cut xs 508 4) (omega (arith, length_cut xs 0 508 (omega arith)))) ∙ ap (λ (ys : List ℕ). weighted ys 508) whole ∙ sym s.check in
-      ap (λ (ys : List ℕ). ys ++ big 4 (weighted ys 508)) front_cut
-      ∙ ap (λ (n : ℕ). cut xs 0 508 ++ big 4 n) sum ∙ ap (λ (ys : List ℕ). cut xs 0 508 ++ ys) (big-wide 4 xs 508 b (omega arith)) ∙ whole
+      let check = weighted_left 508 (cut xs 0 508) (cut xs 508 4) (omega (arith, length_cut xs 0 508 (omega arith))) in
+      grind (arith, s.check, front_cut, check, cut_append 508 xs 0 4 (omega arith), cut_whole xs 512 s.long, big-wide 4 xs 508 b (omega arith))
 
   pub written_same : writing 512 (parts_of xs) ≡ Ok xs
-  written_same =
-      bind_ok (head_fits (name_of xs) (length (parts_of xs).body)) _ tt (ap (head_fits (name_of xs)) body_length ∙ s.head_ok)
-      ∙ bind_ok (numbers_fit (present (named_of xs)) 24) _ tt (ap (λ (ys : List ℕ). numbers_fit ys 24) (present-named_of xs) ∙ s.numbers_ok)
-      ∙ ap Ok block_same
+  written_same = grind (arith, common_steps, bind_ok, body_length, present-named_of, block_same)
 
 pub writes_back : WritesBack
 writes_back p xs b h = let q = passed xs p h in ap (writing 512) (sym q.1) ∙ written_same xs b q.0
+
+-- the check in a letter's block is that of its front
+pub check_same : (xs : List ℕ) → reading xs ≡ Ok (parts_of xs) → block_of (parts_of xs) ≡ xs → wide 4 xs 508 ≡ weighted (front (parts_of xs)) 508
+check_same xs h again =
+    let p = parts_of xs in
+    let sum = weighted (front p) 508 in
+    let q = (passed xs p h).0 in
+    grind (arith, q.check, q.long, length-append (front p) (big 4 sum), length-big 4 sum, weighted_left 508 (front p) (big 4 sum))
+
+-- a block that passes all checks is a letter's
+pub letter_block : (xs : List ℕ) → Bytes xs → reading xs ≡ Ok (parts_of xs) → Readable xs
+letter_block xs b h = record { says = h; again = block_same xs b (passed xs (parts_of xs) h).0 }

@@ -21,3 +21,8 @@ weighted_le xs b (suc n) h = omega (arith, weighted_le xs b n (omega arith), rw 
 
 pub weighted_fits : (xs : List ℕ) → Bytes xs → weighted xs 508 < 256 ^ 4
 weighted_fits xs b = omega (arith, weighted_le xs b 508 (omega arith))
+
+-- one term more
+pub weighted_more : (xs : List ℕ) (i : ℕ) → weighted xs (i + 1) ≡ weighted xs i + get_or xs i 0 * (i + 1)
+unfolding weighted
+weighted_more xs i = simp add-one (refl)

@@ -7,4 +7,5 @@ pub mod Text
 pub mod Parts
 pub mod Reading
 pub mod Writing
+pub mod Readable
 pub mod Laws

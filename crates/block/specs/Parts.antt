@@ -5,7 +5,7 @@
 --   named_of  the named numbers of a block, by pair
 --   name_of   the name that a block's bytes say
 --   parts_of  the parts that a block's bytes say
-use Rattle.std.specs.Prelude.{ℕ, ◌+◌, ◌*◌, cond, List, map, Some, None, Option, ◌==◌, slice_index}
+use Rattle.std.specs.Prelude.{ℕ, ◌+◌, ◌*◌, if◌then◌else◌, List, map, Some, None, Option, ◌==◌, slice_index}
 use Rattle.std.specs.List.{between, range_with_len}
 use Rattle.block.specs.declared.names.Name.{Name}
 use Rattle.block.specs.Numbers.{wide}
@@ -23,7 +23,7 @@ parts name named body = record { name = name; named = named; body = body }
 
 -- the number that xs has for pair k: of the named pairs, the i-th by ascending pair has the 4 bytes from place 24 + 4·i
 abbrev pub named_in : List ℕ → ℕ → ℕ → Option ℕ
-named_in xs mask k = cond (bit mask k == 1) (Some (wide 4 xs (24 + 4 * below mask k))) None
+named_in xs mask k = if bit mask k == 1 then Some (wide 4 xs (24 + 4 * below mask k)) else None
 
 -- the named numbers of xs for the pairs 0 to 63; its mask is in bytes 16 to 23
 unfoldable pub named_of : List ℕ → List (Option ℕ)

@@ -6,12 +6,12 @@
 --   numbers_fit   the first of a list of named numbers that is out of range
 --   numbers_from  some numbers of 4 bytes, one after the other
 --   zeros_in      the first of some bytes that is not zero
---   count_in      how many pairs a block names
 --   framed        length, check, kind and edition
+--   count_in      how many pairs a block names
 --   ranged        every field within its range
 --   cleared       every byte that should be zero
 --   reading       all of it
-use Rattle.std.specs.Prelude.{ℕ, zero, suc, ◌+◌, ◌-◌, ◌*◌, cond, ◌&&◌, List, [], ◌∷◌, length, Ok, Err, Result, ◌==◌, nat_le, slice_index}
+use Rattle.std.specs.Prelude.{ℕ, zero, suc, ◌+◌, ◌-◌, ◌*◌, if◌then◌else◌, ◌&&◌, List, [], ◌∷◌, length, Ok, Err, Result, ◌==◌, nat_le, slice_index}
 use Rattle.block.specs.declared.names.Name.{Name}
 use Rattle.block.specs.declared.faults.BlockFault.{BlockFault}
 use Rattle.block.specs.declared.faults.BlockFault.TheVariants.{Length, Check, Kind, Range, NonZero}
@@ -31,7 +31,7 @@ bind (Err e) f = Err e
 
 -- a field at byte `at` has a value from low to high
 abbrev pub in_range : ℕ → ℕ → ℕ → ℕ → Checked
-in_range low high value at = cond (nat_le low value && nat_le value high) (Ok tt) (Err (Range at))
+in_range low high value at = if nat_le low value && nat_le value high then Ok tt else Err (Range at)
 
 -- poster and channel 0 to 7, number 1 to a million, body of at most 224 bytes
 abbrev pub head_fits : Name → ℕ → Checked
@@ -54,16 +54,16 @@ numbers_from xs at (suc n) = wide 4 xs at ∷ numbers_from xs (at + 4) n
 -- the n bytes from byte `at` are zero, or the first that is not
 unfoldable pub zeros_in : List ℕ → ℕ → ℕ → Checked
 zeros_in xs at zero = Ok tt
-zeros_in xs at (suc n) = cond (slice_index xs at == 0) (zeros_in xs (at + 1) n) (Err (NonZero at))
+zeros_in xs at (suc n) = if slice_index xs at == 0 then zeros_in xs (at + 1) n else Err (NonZero at)
 
 -- 512 bytes, the check of the first 508 in the last 4, kind 1 in byte 0, edition 1 in byte 1
 abbrev pub framed : List ℕ → Checked
 framed xs =
-    cond (length xs == 512)
-    (cond (wide 4 xs 508 == weighted xs 508)
-    (cond (slice_index xs 0 == 1) (cond (slice_index xs 1 == 1) (Ok tt) (Err (Kind 1))) (Err (Kind 0)))
-    (Err Check))
-    (Err Length)
+    if length xs == 512 then
+    (if wide 4 xs 508 == weighted xs 508 then
+    (if slice_index xs 0 == 1 then (if slice_index xs 1 == 1 then Ok tt else Err (Kind 1)) else Err (Kind 0))
+    else Err Check)
+    else Err Length
 
 -- how many pairs the mask names; the byte after the last of their numbers is 24 + 4 times that
 abbrev pub count_in : List ℕ → ℕ

@@ -5,7 +5,7 @@
 --   block_of  all 512
 --   roomy     the length of the memory
 --   writing   the block, or the first fault in the order of checks
-use Rattle.std.specs.Prelude.{ℕ, cond, List, [], ◌∷◌, ◌++◌, length, Ok, Err, Option, Result, ◌==◌}
+use Rattle.std.specs.Prelude.{ℕ, if◌then◌else◌, List, [], ◌∷◌, ◌++◌, length, Ok, Err, Option, Result, ◌==◌}
 use Rattle.std.specs.List.{flat_map}
 use Rattle.block.specs.declared.names.Name.{Name}
 use Rattle.block.specs.declared.faults.BlockFault.{BlockFault}
@@ -34,7 +34,7 @@ block_of p = front p ++ big 4 (weighted (front p) 508)
 
 -- memory of 512 bytes
 abbrev pub roomy : ℕ → Checked
-roomy room = cond (room == 512) (Ok tt) (Err Length)
+roomy room = if room == 512 then Ok tt else Err Length
 
 -- what writing into memory of so many bytes answers
 abbrev pub writing : ℕ → Parts → Result (List ℕ) BlockFault

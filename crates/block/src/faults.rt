@@ -1,6 +1,10 @@
 // The faults of reading and writing a block, each with its number and its byte place.
-ghost use Rattle.std.specs.Prelude.{◌≡◌};
+ghost use Rattle.std.specs.Prelude.{◌≡◌, Some};
 ghost use Rattle.block.specs.Faults.{number_of, place_of};
+ghost use Rattle.block.specs.Text.{fault_text};
+
+use std::error::Error;
+use std::fmt;
 
 // Why a block was not read or written. A fault holds the byte place that it tells, where that is not fixed.
 #[derive(Clone, Copy, PartialEq, Eq, Debug)]
@@ -42,3 +46,14 @@ impl BlockFault {
         }
     }
 }
+
+// The number and the byte place, in words.
+impl fmt::Display for BlockFault {
+    ghost output = { λ fault. Some (fault_text fault) };
+
+    fn fmt<W: fmt::Write>(&self, f: &mut fmt::Formatter<W>) -> fmt::Result {
+        write!(f, "refused {} at {}", self.number(), self.place())
+    }
+}
+
+impl Error for BlockFault {}

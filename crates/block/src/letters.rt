@@ -1,56 +1,68 @@
 // A letter read from a block, and the questions for its parts.
-ghost use Rattle.std.specs.Prelude.{◌≡◌, ◌≤◌, true, length, is_ok, IfOk, None, Ok, Err, MatchResult, OnOk, slice_index, slice_index_or};
-ghost use Rattle.block.specs.Mask.{present};
-ghost use Rattle.block.specs.Parts.{parts_of};
+ghost use Rattle.std.specs.Prelude.{◌≡◌, ◌≤◌, length, IfOk, None, Ok, OnOk, slice_index, slice_index_or};
+ghost use Rattle.block.specs.Mask.{mask_of, present};
+ghost use Rattle.block.specs.Sum.{weighted};
+ghost use Rattle.block.specs.Parts.{name_of};
 ghost use Rattle.block.specs.Reading.{framed, ranged, cleared, reading};
-ghost use Rattle.block.specs.Writing.{writing};
+ghost use Rattle.block.specs.Writing.{front, block_of, writing};
 
 use crate::faults::BlockFault;
-use crate::fields::{EDITION, KIND, check_numbers, check_of, head_fits, mask_at, number_at, zeros};
-use crate::masks::{count, is_named, place};
+use crate::fields::{Block, EDITION, KIND, check_numbers, check_of, head_fits, number_at, zeros};
+use crate::masks::Mask;
 use crate::names::Name;
+use std::marker::Model;
 
-// A block (fixed-size frame): 512 bytes, whatever they say.
-pub type Block = [u8; 512];
-
-// A letter (message): a block that was read without a fault.
+// A letter (message): a block that was read without a fault. Contracts see its parts.
 #[derive(Clone, Copy)]
 pub struct Letter {
     block: Block,
-    ghost readable: { is_ok (reading block) ≡ true },
-    ghost short: { slice_index block 8 ≤ 224 },
+}
+
+impl Model for Letter {
+    ghost use Rattle.block.specs.Parts.{Parts, parts_of};
+    ghost use Rattle.block.specs.Writing.{block_of};
+    ghost use Rattle.block.specs.Readable.{Readable};
+    ghost use Rattle.std.proofs.Common.{ap};
+
+    ghost Value = { Parts };
+
+    ghost view = { λ letter. parts_of letter.block };
+
+    ghost invariant = { λ letter. Readable letter.block };
+
+    ghost inverse = { λ p. record { block = block_of p } };
+
+    ghost inverse_ok = { λ letter h. ap (λ xs. record { block = xs }) h.again };
 }
 
 impl Letter {
     // The letter that the bytes say, or the first fault.
     pub fn read(bytes: &[u8]) -> Result<Letter, BlockFault>
-        ensures value { MatchResult result
-            (λ letter. (letter.block ≡ bytes.now) × (reading bytes.now ≡ Ok (parts_of letter.block)))
-            (λ fault. reading bytes.now ≡ Err fault) }
-        ensures again { IfOk result (λ letter. writing 512 (parts_of letter.block) ≡ Ok bytes.now) }
+        ensures value { result ≡ reading bytes.now }
+        ensures again { IfOk result (λ letter. writing 512 letter ≡ Ok bytes.now) }
     {
-        check_frame(bytes)?;
-        check_ranges(bytes)?;
-        check_zeros(bytes)?;
-        let mut block = [0; 512];
-        block.copy_from_slice(bytes);
-        Ok(Letter { block })
+        let block: &Block = bytes.as_array().ok_or(BlockFault::Length)?;
+        check_frame(block)?;
+        check_ranges(block)?;
+        check_zeros(block)?;
+        Ok(Letter { block: *block })
     }
 
     // The letter's name.
     pub fn name(&self) -> Name
-        ensures { result ≡ (parts_of self.now.block).name }
+        ensures { result ≡ self.now.name }
     {
         name_at(&self.block)
     }
 
     // The number that the letter names of a pair, or none.
     pub fn named(&self, pair: u8) -> Option<u32>
-        ensures { result ≡ slice_index_or (parts_of self.now.block).named pair None }
+        ensures { result ≡ slice_index_or self.now.named pair None }
     {
-        let mask = mask_at(&self.block);
-        if pair < 64 && is_named(mask, pair as u32) {
-            Some(number_at(&self.block, 24 + 4 * place(mask, pair as u32) as usize))
+        let mask = Mask::read(&self.block);
+        let pair = usize::from(pair);
+        if pair < 64 && mask.names(pair) {
+            Some(number_at(&self.block, mask.place(pair)))
         } else {
             None
         }
@@ -58,74 +70,84 @@ impl Letter {
 
     // How many letters it names.
     pub fn names(&self) -> u32
-        ensures { result ≡ length (present (parts_of self.now.block).named) }
+        ensures { result ≡ length (present self.now.named) }
     {
-        count(mask_at(&self.block))
+        Mask::read(&self.block).count()
     }
 
     // The body.
     pub fn body(&self) -> &[u8]
-        ensures { result.now ≡ (parts_of self.now.block).body }
+        ensures body { result.now ≡ self.now.body }
+        ensures short { length result.now ≤ 224 }
     {
-        &self.block[280..280 + self.block[8] as usize]
+        &self.block[280..280 + usize::from(self.block[8])]
     }
 
-    // The block that the letter was read from.
+    // The mask of the pairs that it names.
+    pub fn mask(&self) -> u64
+        ensures { result ≡ mask_of self.now.named 64 }
+    {
+        Mask::read(&self.block).0
+    }
+
+    // The check of its block.
+    pub fn check(&self) -> u32
+        ensures { result ≡ weighted (front self.now) 508 }
+    {
+        number_at(&self.block, 508)
+    }
+
+    // The block that the letter was read from, which reads as the letter again.
     pub fn block(&self) -> &Block
-        ensures { result.now ≡ self.now.block }
+        ensures value { result.now ≡ block_of self.now }
+        ensures again { reading result.now ≡ Ok self.now }
     {
         &self.block
     }
 }
 
 // The name in bytes 2 to 7.
-fn name_at(bytes: &[u8]) -> Name
-    requires { 8 ≤ length bytes.now }
-    ensures { result ≡ (parts_of bytes.now).name }
+fn name_at(block: &Block) -> Name
+    ensures { result ≡ name_of block.now }
 {
     Name {
-        station: bytes[2],
-        channel: bytes[3],
-        number: number_at(bytes, 4),
+        station: block[2],
+        channel: block[3],
+        number: number_at(block, 4),
     }
 }
 
-// Length, check, kind and edition.
-fn check_frame(bytes: &[u8]) -> Result<(), BlockFault>
-    ensures value { result ≡ framed bytes.now }
-    ensures long { OnOk result (length bytes.now ≡ 512) }
+// Check, kind and edition.
+fn check_frame(block: &Block) -> Result<(), BlockFault>
+    ensures { result ≡ framed block.now }
 {
-    if bytes.len() != 512 {
-        return Err(BlockFault::Length);
-    }
-    if number_at(bytes, 508) != check_of(bytes) {
+    if number_at(block, 508) != check_of(block) {
         return Err(BlockFault::Check);
     }
-    if bytes[0] != KIND {
+    if block[0] != KIND {
         return Err(BlockFault::Kind(0));
     }
-    if bytes[1] != EDITION {
+    if block[1] != EDITION {
         return Err(BlockFault::Kind(1));
     }
     Ok(())
 }
 
 // Each field in its range.
-fn check_ranges(bytes: &[u8]) -> Result<(), BlockFault>
-    requires { length bytes.now ≡ 512 }
-    ensures value { result ≡ ranged bytes.now }
-    ensures short { OnOk result (slice_index bytes.now 8 ≤ 224) }
+fn check_ranges(block: &Block) -> Result<(), BlockFault>
+    ensures value { result ≡ ranged block.now }
+    ensures short { OnOk result (slice_index block.now 8 ≤ 224) }
 {
-    head_fits(name_at(bytes), bytes[8] as usize)?;
-    check_numbers(bytes, count(mask_at(bytes)) as usize)
+    head_fits(name_at(block), usize::from(block[8]))?;
+    check_numbers(block, Mask::read(block).end())
 }
 
 // Each byte that should be zero.
-fn check_zeros(bytes: &[u8]) -> Result<(), BlockFault>
-    requires { (length bytes.now ≡ 512) × (slice_index bytes.now 8 ≤ 224) }
-    ensures { result ≡ cleared bytes.now }
+fn check_zeros(block: &Block) -> Result<(), BlockFault>
+    requires { slice_index block.now 8 ≤ 224 }
+    ensures { result ≡ cleared block.now }
 {
-    zeros(bytes, 9, 16)?;
-    zeros(bytes, 24 + 4 * count(mask_at(bytes)) as usize, 280)?;
-    zeros(bytes, 280 + bytes[8] as usize, 508)
+    zeros(block, 9..16)?;
+    zeros(block, Mask::read(block).end()..280)?;
+    zeros(block, 280 + usize::from(block[8])..508)
 }

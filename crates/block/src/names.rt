@@ -30,7 +30,7 @@ impl Name {
     pub fn pair(&self) -> usize
         ensures { result ≡ pair_of self.now }
     {
-        8 * self.station as usize + self.channel as usize
+        8 * usize::from(self.station) + usize::from(self.channel)
     }
 }
 
@@ -42,9 +42,11 @@ impl fmt::Display for Name {
     ghost output = { λ n. Some (name_text n) };
 
     fn fmt<W: fmt::Write>(&self, f: &mut fmt::Formatter<W>) -> fmt::Result {
-        let station = self.station;
-        let channel = self.channel;
-        let number = self.number;
+        let Name {
+            station,
+            channel,
+            number,
+        } = *self;
         write!(f, "{station}.{channel}.{number}")
     }
 }

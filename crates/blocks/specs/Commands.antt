@@ -9,22 +9,19 @@
 --   body_fault    why digits are no body
 --   hex_body      the body that digits write
 --   body_in       the body that a word writes
---   contents      the bytes in a buffer
---   read_as       the same of an answer
 --   Entered       that some words of a text fill a table of names
 --   AllNamed      that all words of a text do
 --   Drafted       that the words of a text write a letter
 --   Asked         that a line asks for a command
-use Rattle.std.specs.Prelude.{◌≡◌, ℕ, zero, suc, ◌+◌, ◌-◌, ◌≤◌, Bool, cond, ◌&&◌, List, [], ◌∷◌, length, take, replicate, Some, None, Ok, Err, Option, Result, ◌==◌, nat_le, nat_lt, slice_index, slice_index_or, slice_set}
-use Rattle.std.specs.List.{between}
+use Rattle.std.specs.Prelude.{◌≡◌, ℕ, zero, suc, ◌+◌, ◌-◌, ◌≤◌, Bool, if◌then◌else◌, ◌&&◌, List, [], length, take, replicate, Some, None, Ok, Err, Option, Result, ◌==◌, nat_le, nat_lt, slice_index, slice_index_or, slice_set}
+use Rattle.std.specs.List.{between, position_or_len}
 use Rattle.block.specs.declared.names.Name.{Name}
 use Rattle.block.specs.Pairs.{pair_of}
-use Rattle.blocks.specs.declared.hex.Bytes.{Bytes}
 use Rattle.blocks.specs.declared.commands.Command.{Command}
 use Rattle.blocks.specs.declared.commands.Command.TheVariants.{Comment, Write, Read}
 use Rattle.blocks.specs.declared.commands.Draft.{Draft}
 use Rattle.blocks.specs.declared.commands.Misread.{Misread}
-use Rattle.blocks.specs.declared.commands.Misread.TheVariants.{EmptyLine, LongLine, NoCommand, BadDigit, OddDigits, FewWords, BadNumber, BadBody, BadName, NamedTwice}
+use Rattle.blocks.specs.declared.commands.Misread.TheVariants.{BadDigit, BadNumber, BadBody}
 use Rattle.blocks.specs.Words.{word_of, after_word, by_some, decimal_value}
 use Rattle.blocks.specs.Hex.{hex_bytes}
 
@@ -34,7 +31,7 @@ long_number word = by_some (decimal_value word) (Err BadNumber) (λ n. Ok n)
 
 -- the same, if it fits 8 bits
 abbrev pub short_number : List ℕ → Result ℕ Misread
-short_number word = by_some (decimal_value word) (Err BadNumber) (λ n. cond (nat_lt n 256) (Ok n) (Err BadNumber))
+short_number word = by_some (decimal_value word) (Err BadNumber) (λ n. if nat_lt n 256 then Ok n else Err BadNumber)
 
 -- a digit below 8: the bytes 48 to 55
 abbrev octal : ℕ → Bool
@@ -48,32 +45,23 @@ starts_name word =
 -- such a start, and then the digits of the number
 abbrev pub name_in : List ℕ → Option Name
 name_in word =
-    cond (starts_name word)
-    (by_some (decimal_value (between 4 (length word) word)) None (λ n.
-    Some (record { station = slice_index word 0 - 48; channel = slice_index word 2 - 48; number = n })))
-    None
+    if starts_name word then
+    by_some (decimal_value (between 4 (length word) word)) None (λ n.
+    Some (record { station = slice_index word 0 - 48; channel = slice_index word 2 - 48; number = n }))
+    else None
 
 -- how many bytes come before the first double quote, byte 34
-unfoldable pub before_quote : List ℕ → ℕ
-before_quote [] = 0
-before_quote (b ∷ bs) = cond (b == 34) 0 (1 + before_quote bs)
+abbrev pub before_quote : List ℕ → ℕ
+before_quote text = position_or_len (λ b. b == 34) text
 
 -- the text before a double quote that is the first and the last byte to be one
 abbrev pub text_in : List ℕ → Result (List ℕ) Misread
-text_in rest = cond (before_quote rest + 1 == length rest) (Ok (take (before_quote rest) rest)) (Err BadBody)
+text_in rest = if before_quote rest + 1 == length rest then Ok (take (before_quote rest) rest) else Err BadBody
 
 -- a bad digit makes a bad body
 abbrev pub body_fault : Misread → Misread
-body_fault EmptyLine = EmptyLine
-body_fault LongLine = LongLine
-body_fault NoCommand = NoCommand
 body_fault BadDigit = BadBody
-body_fault OddDigits = OddDigits
-body_fault FewWords = FewWords
-body_fault BadNumber = BadNumber
-body_fault BadBody = BadBody
-body_fault BadName = BadName
-body_fault NamedTwice = NamedTwice
+body_fault reason = reason
 
 abbrev pub hex_body : Result (List ℕ) Misread → Result (List ℕ) Misread
 hex_body (Ok bytes) = Ok bytes
@@ -82,16 +70,9 @@ hex_body (Err reason) = Err (body_fault reason)
 -- a hyphen, byte 45, for no body; a text between double quotes; or hexadecimal digits
 abbrev pub body_in : List ℕ → Result (List ℕ) Misread
 body_in word =
-    cond (length word == 1 && slice_index word 0 == 45) (Ok [])
-    (cond (nat_le 1 (length word) && slice_index word 0 == 34) (text_in (between 1 (length word) word)) (hex_body (hex_bytes word [] None)))
-
--- the bytes in a buffer
-abbrev pub contents : Bytes → List ℕ
-contents bytes = take bytes.len bytes.held
-
-abbrev pub read_as : Result Bytes Misread → Result (List ℕ) Misread
-read_as (Ok bytes) = Ok (contents bytes)
-read_as (Err reason) = Err reason
+    if length word == 1 && slice_index word 0 == 45 then Ok []
+    else if nat_le 1 (length word) && slice_index word 0 == 34 then text_in (between 1 (length word) word)
+    else hex_body (hex_bytes word [] None)
 
 -- the n words of a text enter their names into a table, each at a pair that has none yet, and so fill it
 unfoldable pub Entered : ℕ → List ℕ → List (Option ℕ) → List (Option ℕ) → Type 0
@@ -110,12 +91,12 @@ pub record Drafted (text : List ℕ) (draft : Draft) : Type 0 where
   pub station : short_number (word_of text) ≡ Ok draft.name.station
   pub channel : short_number (word_of (after_word text)) ≡ Ok draft.name.channel
   pub number : long_number (word_of (after_word (after_word text))) ≡ Ok draft.name.number
-  pub body : length text ≤ 4096 → body_in (word_of (after_word (after_word (after_word text)))) ≡ Ok (contents draft.body)
+  pub body : length text ≤ 4096 → body_in (word_of (after_word (after_word (after_word text)))) ≡ Ok draft.body.items
   pub named : AllNamed (after_word (after_word (after_word (after_word text)))) draft.named
 
 -- a comment begins with #, byte 35, and keeps its bytes; a letter to be written begins with W, byte 87, and a blank, and
 -- has what the words after them write; a block to be read has the bytes that its digits write
 abbrev pub Asked : List ℕ → Command → Type 0
-Asked line (Comment bytes) = (slice_index line 0 ≡ 35) × (length line ≤ 4096 → contents bytes ≡ line)
+Asked line (Comment bytes) = (slice_index line 0 ≡ 35) × (bytes.now ≡ line)
 Asked line (Write draft) = (slice_index line 0 ≡ 87) × Drafted (between 2 (length line) line) draft
-Asked line (Read bytes) = hex_bytes line [] None ≡ Ok (contents bytes)
+Asked line (Read bytes) = hex_bytes line [] None ≡ Ok bytes.items

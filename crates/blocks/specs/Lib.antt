@@ -4,3 +4,4 @@ pub mod Reasons
 pub mod Hex
 pub mod Commands
 pub mod Answers
+pub mod Listing

@@ -1,6 +1,10 @@
--- Why a line is not understood, in words.
---   reason_text  the text of a reason
-use Rattle.std.specs.Prelude.{ℕ, List, codes}
+-- Why a line has no answer, in words.
+--   reason_text   why a line is not understood
+--   refusal_text  that, or the fault of a letter or a block
+use Rattle.std.specs.Prelude.{ℕ, List, ◌++◌, codes}
+use Rattle.block.specs.Text.{fault_text}
+use Rattle.blocks.specs.declared.answers.Refusal.{Refusal}
+use Rattle.blocks.specs.declared.answers.Refusal.TheVariants.{Refused, NotUnderstood}
 use Rattle.blocks.specs.declared.commands.Misread.{Misread}
 use Rattle.blocks.specs.declared.commands.Misread.TheVariants.{EmptyLine, LongLine, NoCommand, BadDigit, OddDigits, FewWords, BadNumber, BadBody, BadName, NamedTwice}
 
@@ -16,3 +20,8 @@ reason_text BadNumber = codes "bad number"
 reason_text BadBody = codes "bad body"
 reason_text BadName = codes "bad name"
 reason_text NamedTwice = codes "pair named twice"
+
+-- what is written of a refusal
+abbrev pub refusal_text : Refusal → List ℕ
+refusal_text (Refused fault) = fault_text fault
+refusal_text (NotUnderstood reason) = codes "not understood: " ++ reason_text reason

@@ -11,16 +11,16 @@
 --   by_some        go on with what an option holds
 --   digits_value   a number with more digits
 --   decimal_value  the number that digits write
-use Rattle.std.specs.Prelude.{ℕ, ◌+◌, ◌-◌, ◌*◌, ◌^◌, Bool, false, cond, not, ◌&&◌, ◌||◌, List, [], ◌∷◌, length, take, drop, Some, None, Option, ◌==◌, nat_le, nat_lt}
+use Rattle.std.specs.Prelude.{ℕ, ◌+◌, ◌-◌, ◌*◌, ◌^◌, Bool, false, if◌then◌else◌, not, ◌&&◌, ◌||◌, List, [], ◌∷◌, length, take, drop, Some, None, Option, ◌==◌, nat_le, nat_lt}
+use Rattle.std.specs.List.{prefix_len}
 
 -- a space or a tab
 abbrev pub blank : ℕ → Bool
 blank b = b == 32 || b == 9
 
 -- how many blanks a text begins with
-unfoldable pub blanks : List ℕ → ℕ
-blanks [] = 0
-blanks (b ∷ bs) = cond (blank b) (1 + blanks bs) 0
+abbrev pub blanks : List ℕ → ℕ
+blanks text = prefix_len blank text
 
 -- whether a word ends at a byte: at a blank where no double quote is open
 abbrev pub ends_word : ℕ → Bool → Bool
@@ -28,12 +28,12 @@ ends_word b quoted = blank b && not quoted
 
 -- whether a double quote, byte 34, is open after a byte
 abbrev pub quoted_after : ℕ → Bool → Bool
-quoted_after b quoted = cond (b == 34) (not quoted) quoted
+quoted_after b quoted = if b == 34 then not quoted else quoted
 
 -- how long the first word of a text is; `quoted` says whether a double quote is open
 unfoldable pub word_length : List ℕ → Bool → ℕ
 word_length [] quoted = 0
-word_length (b ∷ bs) quoted = cond (ends_word b quoted) 0 (1 + word_length bs (quoted_after b quoted))
+word_length (b ∷ bs) quoted = if ends_word b quoted then 0 else 1 + word_length bs (quoted_after b quoted)
 
 -- a text without the blanks that it begins with
 abbrev pub rest_of : List ℕ → List ℕ
@@ -49,7 +49,7 @@ after_word text = drop (word_length (rest_of text) false) (rest_of text)
 
 -- ten times the number and the digit, where the byte is a digit, 48 to 57, and the number stays below 2^32
 abbrev pub with_digit : ℕ → ℕ → Option ℕ
-with_digit value b = cond (nat_le 48 b && nat_le b 57 && nat_lt (value * 10 + (b - 48)) (2 ^ 32)) (Some (value * 10 + (b - 48))) None
+with_digit value b = if nat_le 48 b && nat_le b 57 && nat_lt (value * 10 + (b - 48)) (2 ^ 32) then Some (value * 10 + (b - 48)) else None
 
 -- go on with what an option holds, or with something else
 abbrev pub by_some : {A : Type 0} → Option ℕ → A → (ℕ → A) → A
@@ -63,4 +63,4 @@ digits_value (b ∷ bs) value = by_some (with_digit value b) None (λ more. digi
 
 -- the number that a word of one digit or more writes
 abbrev pub decimal_value : List ℕ → Option ℕ
-decimal_value word = cond (length word == 0) None (digits_value word 0)
+decimal_value word = if length word == 0 then None else digits_value word 0

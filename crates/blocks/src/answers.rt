@@ -1,132 +1,151 @@
 // The answers to commands, and how they are written.
-ghost use Rattle.std.specs.Prelude.{◌≡◌};
-ghost use Rattle.block.specs.Numbers.{wide};
+ghost use Rattle.std.specs.Prelude.{◌≡◌, Some};
+ghost use Rattle.blocks.specs.declared.answers.Refusal.TheVariants.{Refused, NotUnderstood};
+ghost use Rattle.blocks.specs.Reasons.{refusal_text};
 ghost use Rattle.blocks.specs.Answers.{Answered};
+ghost use Rattle.blocks.specs.Listing.{names_text, body_text, letter_text};
 
 use crate::commands::{Command, Misread};
-use crate::hex::{Bytes, HexBytes};
+use crate::hex::HexBytes;
 use crate::lines::LONGEST_LINE;
+use arrayvec::ArrayVec;
 use block::{Block, BlockFault, Letter, Name};
-use std::io::{Cursor, Write};
+use std::io::Write;
 use std::{fmt, io};
 
 // The longest answer, in bytes: a comment of the longest line, repeated, and the end of its line.
 const LONGEST_ANSWER: usize = LONGEST_LINE + 1;
 
-// What is answered to a line.
+// What is answered to a line that is understood.
 #[derive(Drop)]
-pub enum Answer {
+pub enum Answer<'a> {
     // the bytes of a comment
-    Same(Bytes),
+    Same(&'a [u8]),
     // the block of a letter
     Written(Block),
     // the letter of a block
     Found(Letter),
+}
+
+// Why a line has no answer.
+#[derive(Clone, Copy, PartialEq, Eq, Debug)]
+pub enum Refusal {
     // why the letter or the block was refused
     Refused(BlockFault),
     // why the line is no command
     NotUnderstood(Misread),
 }
 
-impl Answer {
+impl From<BlockFault> for Refusal {
+    ghost from_gives = { λ fault refusal. refusal ≡ Refused fault };
+
+    fn from(fault: BlockFault) -> Refusal {
+        Refusal::Refused(fault)
+    }
+}
+
+impl From<Misread> for Refusal {
+    ghost from_gives = { λ reason refusal. refusal ≡ NotUnderstood reason };
+
+    fn from(reason: Misread) -> Refusal {
+        Refusal::NotUnderstood(reason)
+    }
+}
+
+impl fmt::Display for Refusal {
+    ghost output = { λ refusal. Some (refusal_text refusal) };
+
+    fn fmt<W: fmt::Write>(&self, f: &mut fmt::Formatter<W>) -> fmt::Result {
+        match self {
+            Refusal::Refused(fault) => write!(f, "{fault}"),
+            Refusal::NotUnderstood(reason) => write!(f, "not understood: {reason}"),
+        }
+    }
+}
+
+impl<'a> Answer<'a> {
     // The answer to a command.
-    pub fn to(command: Command) -> Answer
-        ensures { Answered command result }
+    pub fn to(command: Command<'a>) -> Result<Answer<'a>, Refusal>
+        ensures { Answered command.entry result }
     {
         match command {
-            Command::Comment(line) => Answer::Same(line),
-            Command::Write(draft) => match draft.block() {
-                Ok(block) => Answer::Written(block),
-                Err(fault) => Answer::Refused(fault),
-            },
-            Command::Read(bytes) => match Letter::read(bytes.as_slice()) {
-                Ok(letter) => Answer::Found(letter),
-                Err(fault) => Answer::Refused(fault),
-            },
+            Command::Comment(line) => Ok(Answer::Same(line)),
+            Command::Write(draft) => Ok(Answer::Written(draft.block()?)),
+            Command::Read(bytes) => Ok(Answer::Found(Letter::read(&bytes)?)),
         }
     }
 
-    // Writes the answer and the end of its line, in one piece, which is gathered in fixed memory.
-    pub fn write_line<W: Write>(&self, out: &mut W) -> io::Result<()> {
-        let mut line = Cursor::new([0u8; LONGEST_ANSWER]);
-        self.gather(&mut line)?;
-        let count = line.position().min(LONGEST_ANSWER as u64) as usize;
-        out.write_all(&line.get_ref()[0..count])
-    }
-
-    // Writes the answer and the end of its line, piece by piece.
-    fn gather<W: Write>(&self, out: &mut W) -> io::Result<()> {
+    // Writes the answer without the end of its line.
+    fn write_to<W: Write>(&self, out: &mut W) -> io::Result<()> {
         match self {
-            Answer::Same(line) => out.write_all(line.as_slice())?,
-            Answer::Written(block) => {
-                let digits = HexBytes(block);
-                write!(out, "{digits}")?
-            }
-            Answer::Found(letter) => {
-                let parts = PartsOf(letter);
-                write!(out, "{parts}")?
-            }
-            Answer::Refused(fault) => {
-                let number = fault.number();
-                let place = fault.place();
-                write!(out, "refused {number} at {place}")?
-            }
-            Answer::NotUnderstood(reason) => write!(out, "not understood: {reason}")?,
+            Answer::Same(line) => out.write_all(line),
+            Answer::Written(block) => write!(out, "{}", HexBytes(block)),
+            Answer::Found(letter) => write!(out, "{}", Listing(letter)),
         }
-        out.write_all(b"\n")
     }
 }
 
-// A letter, to be written part by part.
-#[derive(Clone, Copy)]
-struct PartsOf<'a>(&'a Letter);
+// Writes what is answered to a line and the end of the line, in one piece, which is gathered in fixed memory.
+pub fn write_line<W: Write>(answer: &Result<Answer<'_>, Refusal>, out: &mut W) -> io::Result<()> {
+    let mut line: ArrayVec<u8, LONGEST_ANSWER> = ArrayVec::new();
+    match answer {
+        Ok(answer) => answer.write_to(&mut line)?,
+        Err(refusal) => write!(line, "{refusal}")?,
+    }
+    line.write_all(b"\n")?;
+    out.write_all(&line)
+}
 
-impl fmt::Display for PartsOf<'_> {
+// A letter, to be listed part by part.
+#[derive(Clone, Copy)]
+struct Listing<'a>(&'a Letter);
+
+impl fmt::Display for Listing<'_> {
+    ghost output = { λ x. Some (letter_text x.0.now) };
+
     fn fmt<W: fmt::Write>(&self, f: &mut fmt::Formatter<W>) -> fmt::Result {
         let letter = self.0;
-        let name = letter.name();
-        write!(f, "letter {name} names")?;
-        write_names(letter, f)?;
-        let mask = mask_of(letter.block());
-        let check = check_of(letter.block());
-        write!(f, " mask {mask} check {check} body ")?;
-        let body = HexBytes(letter.body());
-        if letter.body().is_empty() {
-            f.write_str("-")
-        } else {
-            write!(f, "{body}")
+        write!(f, "letter {} names{}", letter.name(), Names(letter))?;
+        write!(f, " mask {} check {}", letter.mask(), letter.check())?;
+        write!(f, " body {}", Body(letter.body()))
+    }
+}
+
+// The names that a letter names, to be written by ascending pair, each after a space, or that there are none.
+#[derive(Clone, Copy)]
+struct Names<'a>(&'a Letter);
+
+impl fmt::Display for Names<'_> {
+    ghost output = { λ x. Some (names_text x.0.now.named) };
+
+    fn fmt<W: fmt::Write>(&self, f: &mut fmt::Formatter<W>) -> fmt::Result {
+        let letter = self.0;
+        if letter.names() == 0 {
+            return f.write_str(" none");
         }
-    }
-}
-
-// Writes the names that a letter names, by ascending pair, or that there are none.
-fn write_names<W: fmt::Write>(letter: &Letter, f: &mut fmt::Formatter<W>) -> fmt::Result {
-    if letter.names() == 0 {
-        return f.write_str(" none");
-    }
-    for pair in 0..64u8 {
-        if let Some(number) = letter.named(pair) {
-            let name = Name::of_pair(pair, number);
-            write!(f, " {name}")?;
+        // Kept: a letter is asked pair by pair, since it holds a mask and some numbers, and no table to go through.
+        for pair in 0..64 {
+            if let Some(number) = letter.named(pair) {
+                write!(f, " {}", Name::of_pair(pair, number))?;
+            }
         }
+        Ok(())
     }
-    Ok(())
 }
 
-// The mask of a block, in its bytes 16 to 23.
-fn mask_of(block: &Block) -> u64
-    ensures { result ≡ wide 8 block.now 16 }
-{
-    u64::from_be_bytes([
-        block[16], block[17], block[18], block[19], block[20], block[21], block[22], block[23],
-    ])
-}
+// A body, to be written as digits, or as a hyphen where it is empty.
+#[derive(Clone, Copy)]
+struct Body<'a>(&'a [u8]);
 
-// The check of a block, in its bytes 508 to 511.
-fn check_of(block: &Block) -> u32
-    ensures { result ≡ wide 4 block.now 508 }
-{
-    u32::from_be_bytes([block[508], block[509], block[510], block[511]])
+impl fmt::Display for Body<'_> {
+    ghost output = { λ x. Some (body_text x.0.now) };
+
+    fn fmt<W: fmt::Write>(&self, f: &mut fmt::Formatter<W>) -> fmt::Result {
+        if self.0.is_empty() {
+            return f.write_str("-");
+        }
+        write!(f, "{}", HexBytes(self.0))
+    }
 }
 
 // The longest answers find room.
@@ -134,13 +153,14 @@ fn check_of(block: &Block) -> u32
 mod tests {
     use super::*;
     use block::{Named, write};
+    use std::io::Cursor;
     use std::test::Fail;
 
     #[test]
     fn longest_comment_finds_room(rt: HostRuntime) -> Result<(), Fail> {
-        let comment = Answer::Same(Bytes::copy_of(&[b'#'; 4096]));
+        let comment = Ok(Answer::Same(&[b'#'; 4096]));
         let mut out = Cursor::new([0u8; 5000]);
-        comment.write_line(&mut out)?;
+        write_line(&comment, &mut out)?;
         assert_eq!(rt; out.position(), 4097);
         Ok(())
     }
@@ -156,10 +176,10 @@ mod tests {
         let mut block: Block = [0; 512];
         write(name, &named, &[255; 224], &mut block)?;
         let mut out = Cursor::new([0u8; 5000]);
-        Answer::Written(block).write_line(&mut out)?;
+        write_line(&Ok(Answer::Written(block)), &mut out)?;
         assert_eq!(rt; out.position(), 1025);
         let mut listed = Cursor::new([0u8; 5000]);
-        Answer::Found(Letter::read(&block)?).write_line(&mut listed)?;
+        write_line(&Ok(Answer::Found(Letter::read(&block)?)), &mut listed)?;
         assert_eq!(rt; listed.position(), 1288);
         Ok(())
     }

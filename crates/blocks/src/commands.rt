@@ -1,5 +1,5 @@
 // The commands that lines write, and why a line writes none.
-ghost use Rattle.std.specs.Prelude.{◌≡◌, ◌<◌, ◌≤◌, true, [], length, is_some, IfSome, IfOk, Some, None, Ok, MatchResult, slice_index_or, slice_set};
+ghost use Rattle.std.specs.Prelude.{◌≡◌, ◌<◌, ◌≤◌, ◌↔◌, [], length, IfSome, IfOk, IfErr, IsOk, OnOk, OnErr, Some, None, Ok, Err, MatchResult, slice_index_or, slice_set};
 ghost use Rattle.block.specs.Pairs.{pair_of};
 ghost use Rattle.block.specs.Parts.{parts};
 ghost use Rattle.block.specs.Writing.{writing};
@@ -7,11 +7,11 @@ ghost use Rattle.blocks.specs.declared.commands.Misread.TheVariants.{NamedTwice}
 ghost use Rattle.blocks.specs.Words.{word_of, after_word};
 ghost use Rattle.blocks.specs.Hex.{hex_bytes};
 ghost use Rattle.blocks.specs.Reasons.{reason_text};
-ghost use Rattle.blocks.specs.Commands.{long_number, short_number, before_quote, text_in, body_in, name_in, contents, read_as, AllNamed, Drafted, Asked};
+ghost use Rattle.blocks.specs.Commands.{long_number, short_number, text_in, body_in, name_in, AllNamed, Drafted, Asked};
 
-use crate::hex::Bytes;
+use crate::hex::{Bytes, copy_of, from_hex};
 use crate::words::{Splitter, decimal};
-use block::{Block, BlockFault, Name, Named};
+use block::{Block, BlockFault, Name, Named, block_of};
 use std::fmt;
 
 // Why a line is not understood.
@@ -29,12 +29,12 @@ pub enum Misread {
     NamedTwice,
 }
 
-impl Misread {
-    // The reason in words.
-    fn text(&self) -> &'static str
-        ensures { result.now ≡ reason_text self.now }
-    {
-        match self {
+// The reason in words.
+impl fmt::Display for Misread {
+    ghost output = { λ reason. Some (reason_text reason) };
+
+    fn fmt<W: fmt::Write>(&self, f: &mut fmt::Formatter<W>) -> fmt::Result {
+        f.write_str(match self {
             Misread::EmptyLine => "empty line",
             Misread::LongLine => "line over 4096 bytes",
             Misread::NoCommand => "no such command",
@@ -45,15 +45,7 @@ impl Misread {
             Misread::BadBody => "bad body",
             Misread::BadName => "bad name",
             Misread::NamedTwice => "pair named twice",
-        }
-    }
-}
-
-impl fmt::Display for Misread {
-    ghost output = { λ reason. Some (reason_text reason) };
-
-    fn fmt<W: fmt::Write>(&self, f: &mut fmt::Formatter<W>) -> fmt::Result {
-        f.write_str(self.text())
+        })
     }
 }
 
@@ -67,23 +59,25 @@ pub struct Draft {
 
 // What a line asks for.
 #[derive(Drop)]
-pub enum Command {
+pub enum Command<'a> {
     // the line again
-    Comment(Bytes),
+    Comment(&'a [u8]),
     // the block of a letter
     Write(Draft),
     // the letter of a block
     Read(Bytes),
 }
 
-impl Command {
+impl<'a> Command<'a> {
     // The command of a line without its end.
-    pub fn parse(line: &[u8]) -> Result<Command, Misread>
+    // Kept: `parse` names what is done with the bytes; a `try_from` would have the same body, and its clause as a ghost member.
+    // The same holds of `Draft::parse`, and `name_of` answers a type of another crate.
+    pub fn parse(line: &'a [u8]) -> Result<Command<'a>, Misread>
         ensures { IfOk result (λ command. Asked line.now command) }
     {
         match line {
             [] => Err(Misread::EmptyLine),
-            [b'#', ..] => Ok(Command::Comment(Bytes::copy_of(line))),
+            [b'#', ..] => Ok(Command::Comment(line)),
             [b'W'] => Err(Misread::FewWords),
             [b'W', b' ' | b'\t', words @ ..] => Ok(Command::Write(Draft::parse(words)?)),
             [b' ' | b'\t' | b'0'..=b'9' | b'A'..=b'F' | b'a'..=b'f', ..] => {
@@ -115,20 +109,18 @@ impl Draft {
 
     // The letter's block, or why it has none.
     pub fn block(&self) -> Result<Block, BlockFault>
-        ensures { result ≡ writing 512 (parts self.now.name self.now.named (contents self.now.body)) }
+        ensures { result ≡ writing 512 (parts self.now.name self.now.named self.now.body.items) }
     {
-        let mut memory = [0; 512];
-        block::write(self.name, &self.named, self.body.as_slice(), &mut memory)?;
-        Ok(memory)
+        block_of(self.name, &self.named, &self.body)
     }
 }
 
 // The bytes that a line of digits writes, of which there is one or more.
 fn block_digits(line: &[u8]) -> Result<Bytes, Misread>
-    ensures { IfOk result (λ bytes. hex_bytes line.now [] None ≡ Ok (contents bytes)) }
+    ensures { IfOk result (λ bytes. hex_bytes line.now [] None ≡ Ok bytes.items) }
 {
-    let bytes = Bytes::from_hex(line)?;
-    if bytes.as_slice().is_empty() {
+    let bytes = from_hex(line)?;
+    if bytes.is_empty() {
         return Err(Misread::EmptyLine);
     }
     Ok(bytes)
@@ -136,8 +128,8 @@ fn block_digits(line: &[u8]) -> Result<Bytes, Misread>
 
 // The next word, which has to be there.
 fn required<'a>(words: &mut Splitter<'a>) -> Result<&'a [u8], Misread>
-    ensures value { IfOk result (λ word. word.now ≡ word_of words.old.rest.now) }
-    ensures rest { words.new.rest.now ≡ after_word words.old.rest.now }
+    ensures value { IfOk result (λ word. word.now ≡ word_of words.old) }
+    ensures rest { words.new ≡ after_word words.old }
 {
     words.next().ok_or(Misread::FewWords)
 }
@@ -153,59 +145,44 @@ fn long_number(word: &[u8]) -> Result<u32, Misread>
 fn short_number(word: &[u8]) -> Result<u8, Misread>
     ensures { result ≡ short_number word.now }
 {
-    match u8::try_from(long_number(word)?) {
-        Ok(number) => Ok(number),
-        Err(_) => Err(Misread::BadNumber),
-    }
+    u8::try_from(long_number(word)?).map_err(|_| Misread::BadNumber)
 }
 
 // The body that a word writes: none, a text between double quotes, or the bytes of hexadecimal digits.
 fn body_of(word: &[u8]) -> Result<Bytes, Misread>
-    ensures { length word.now ≤ 4096 → read_as result ≡ body_in word.now }
+    ensures { length word.now ≤ 4096 → MatchResult result
+        (λ bytes. body_in word.now ≡ Ok bytes.items)
+        (λ reason. body_in word.now ≡ Err reason) }
 {
     match word {
         [b'-'] => Ok(Bytes::new()),
         [b'"', rest @ ..] => text_of(rest),
-        _ => match Bytes::from_hex(word) {
-            Err(Misread::BadDigit) => Err(Misread::BadBody),
-            read => read,
-        },
+        _ => from_hex(word).map_err(|reason| match reason {
+            Misread::BadDigit => Misread::BadBody,
+            _ => reason,
+        }),
     }
 }
 
-// The text before a double quote, which has to end the word.
+// The text before a double quote, which has to end the word and to be the only one.
 fn text_of(rest: &[u8]) -> Result<Bytes, Misread>
-    ensures { length rest.now ≤ 4096 → read_as result ≡ text_in rest.now }
+    ensures { length rest.now ≤ 4096 → MatchResult result
+        (λ bytes. text_in rest.now ≡ Ok bytes.items)
+        (λ reason. text_in rest.now ≡ Err reason) }
 {
-    let count = before_quote(rest);
-    if count + 1 != rest.len() {
-        return Err(Misread::BadBody);
+    match rest {
+        [text @ .., b'"'] if !text.contains(&b'"') => Ok(copy_of(text)),
+        _ => Err(Misread::BadBody),
     }
-    Ok(Bytes::copy_of(&rest[0..count]))
-}
-
-// How many bytes come before the first double quote.
-fn before_quote(text: &[u8]) -> usize
-    ensures value { result ≡ before_quote text.now }
-    ensures bound { result ≤ length text.now }
-{
-    for (i, byte) in text.iter().enumerate() {
-        if *byte == b'"' {
-            return i;
-        }
-    }
-    text.len()
 }
 
 // The named numbers of the words that are left, by pair.
 fn named_of(words: Splitter<'_>) -> Result<Named, Misread>
-    ensures { IfOk result (λ named. AllNamed words.entry.rest.now named) }
+    ensures { IfOk result (λ named. AllNamed words.entry named) }
 {
     let mut named: Named = [None; 64];
     for word in words {
-        let Some(name) = name_of(word) else {
-            return Err(Misread::BadName);
-        };
+        let name = name_of(word).ok_or(Misread::BadName)?;
         put_name(&mut named, name)?;
     }
     Ok(named)
@@ -213,10 +190,12 @@ fn named_of(words: Splitter<'_>) -> Result<Named, Misread>
 
 // Enters a name's number at its pair, which no other name has taken.
 fn put_name(named: &mut Named, name: Name) -> Result<(), Misread>
-    requires { (name.station < 8) × (name.channel < 8) }
-    ensures { MatchResult result
-        (λ _. (slice_index_or named.old (pair_of name) None ≡ None) × (named.new ≡ slice_set named.old (pair_of name) (Some name.number)))
-        (λ reason. (reason ≡ NamedTwice) × (is_some (slice_index_or named.old (pair_of name) None) ≡ true) × (named.new ≡ named.old)) }
+    requires station { name.station < 8 }
+    requires channel { name.channel < 8 }
+    ensures free { IsOk result ↔ (slice_index_or named.old (pair_of name) None ≡ None) }
+    ensures entered { OnOk result (named.new ≡ slice_set named.old (pair_of name) (Some name.number)) }
+    ensures twice { IfErr result (λ reason. reason ≡ NamedTwice) }
+    ensures kept { OnErr result (named.new ≡ named.old) }
 {
     let pair = name.pair();
     if named[pair].is_some() {
@@ -234,11 +213,9 @@ fn name_of(word: &[u8]) -> Option<Name>
     match word {
         [s @ b'0'..=b'7', b'.', c @ b'0'..=b'7', b'.', digits @ ..] => {
             let number = decimal(digits)?;
-            let station = *s - b'0';
-            let channel = *c - b'0';
             Some(Name {
-                station,
-                channel,
+                station: *s - b'0',
+                channel: *c - b'0',
                 number,
             })
         }

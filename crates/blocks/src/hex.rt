@@ -1,125 +1,67 @@
-// Hexadecimal digits: their values, the bytes that they write, and the text of a byte.
-ghost use Rattle.std.specs.Prelude.{◌≡◌, ◌<◌, ◌≤◌, [], length, take, IfSome, Some, None, Ok, Err, MatchResult};
+// Hexadecimal digits: their values, the bytes that they write, and the text of bytes.
+ghost use Rattle.std.specs.Prelude.{◌≡◌, ◌<◌, [], take, IfSome, Some, None, Ok, Err, MatchResult};
 ghost use Rattle.std.specs.List.{flat_map};
-ghost use Rattle.blocks.specs.Hex.{hex_value, hex_digit, hex_text, pushed, hex_bytes};
+ghost use Rattle.blocks.specs.Hex.{hex_value, hex_text, pushed, hex_bytes};
 
 use crate::commands::Misread;
+use crate::lines::LONGEST_LINE;
 use crate::words::is_blank;
+use arrayvec::ArrayVec;
 use std::fmt;
 
 // Bytes in a buffer of their own, as many as the longest line has.
-#[derive(Drop)]
-pub struct Bytes {
-    held: [u8; 4096],
-    len: usize,
-    ghost within: { len ≤ 4096 },
+pub type Bytes = ArrayVec<u8, LONGEST_LINE>;
+
+// One more byte, if there is room.
+// Kept: what finds no room is dropped, which the digits of no line come to; an error would be a refusal that is never met.
+fn push(bytes: &mut Bytes, byte: u8)
+    ensures { bytes.new.items ≡ pushed bytes.old.items byte }
+{
+    let _full = bytes.try_push(byte);
 }
 
-impl Bytes {
-    // No bytes.
-    pub fn new() -> Bytes
-        ensures { result.len ≡ 0 }
-    {
-        Bytes {
-            held: [0; 4096],
-            len: 0,
+// The bytes of a text, as many as there is room for.
+pub fn copy_of(text: &[u8]) -> Bytes
+    ensures { result.items ≡ take 4096 text.now }
+{
+    let mut bytes = Bytes::new();
+    let count = text.len().min(bytes.capacity());
+    let _fits = bytes.try_extend_from_slice(&text[..count]);
+    bytes
+}
+
+// The bytes that hexadecimal digits write, two for each byte; blanks between them are passed over.
+#[tactic(auto, using(crate::proofs::Steps::hex_here, crate::proofs::Steps::hex_end))]
+pub fn from_hex(text: &[u8]) -> Result<Bytes, Misread>
+    ensures { MatchResult result
+        (λ bytes. hex_bytes text.now [] None ≡ Ok bytes.items)
+        (λ reason. hex_bytes text.now [] None ≡ Err reason) }
+{
+    let mut bytes = Bytes::new();
+    // Kept: a digit waits for its second; to take two at a time from an iterator is a loop by hand, with `BadDigit` in it twice.
+    let mut high = None;
+    for &byte in text {
+        if is_blank(byte) {
+            continue;
+        }
+        let digit = hex_value(byte).ok_or(Misread::BadDigit)?;
+        match high.take() {
+            None => high = Some(digit),
+            Some(first) => push(&mut bytes, (16 * first + digit) as u8),
         }
     }
-
-    // One more byte, if there is room.
-    pub fn push(&mut self, byte: u8)
-        ensures { take self.new.len self.new.held ≡ pushed (take self.old.len self.old.held) byte }
-    {
-        if self.len < self.held.len() {
-            self.held[self.len] = byte;
-            self.len += 1;
-        }
-    }
-
-    // The bytes of a text, which a line has room for.
-    pub fn copy_of(text: &[u8]) -> Bytes
-        ensures { length text.now ≤ 4096 → take result.len result.held ≡ text.now }
-    {
-        let mut bytes = Bytes::new();
-        for byte in text {
-            bytes.push(*byte);
-        }
-        bytes
-    }
-
-    // The bytes that hexadecimal digits write, two for each byte; blanks between them are passed over.
-    pub fn from_hex(text: &[u8]) -> Result<Bytes, Misread>
-        ensures { MatchResult result
-            (λ bytes. hex_bytes text.now [] None ≡ Ok (take bytes.len bytes.held))
-            (λ reason. hex_bytes text.now [] None ≡ Err reason) }
-    {
-        let mut bytes = Bytes::new();
-        let mut high: Option<u8> = None;
-        for byte in text {
-            if !is_blank(*byte) {
-                let Some(digit) = hex_value(*byte) else {
-                    return Err(Misread::BadDigit);
-                };
-                match high {
-                    None => high = Some(digit),
-                    Some(first) => {
-                        bytes.push(16 * first + digit);
-                        high = None;
-                    }
-                }
-            }
-        }
-        match high {
-            None => Ok(bytes),
-            Some(_) => Err(Misread::OddDigits),
-        }
-    }
-
-    // The bytes, to be read.
-    pub fn as_slice(&self) -> &[u8]
-        ensures { result.now ≡ take self.now.len self.now.held }
-    {
-        &self.held[0..self.len]
+    match high {
+        None => Ok(bytes),
+        Some(_) => Err(Misread::OddDigits),
     }
 }
 
 // The value of a hexadecimal digit of either case, or none.
-pub fn hex_value(byte: u8) -> Option<u8>
+fn hex_value(byte: u8) -> Option<u32>
     ensures value { result ≡ hex_value byte }
     ensures bound { IfSome result (λ digit. digit < 16) }
 {
-    match byte {
-        b'0'..=b'9' => Some(byte - b'0'),
-        b'A'..=b'F' => Some(byte - b'A' + 10),
-        b'a'..=b'f' => Some(byte - b'a' + 10),
-        _ => None,
-    }
-}
-
-// The digit of a value, in lower case.
-fn hex_digit(value: u8) -> u8
-    requires { value < 16 }
-    ensures value { result ≡ hex_digit value }
-    ensures ascii { result < 128 }
-{
-    if value < 10 {
-        b'0' + value
-    } else {
-        b'a' + (value - 10)
-    }
-}
-
-// A byte, to be written as two digits.
-#[derive(Clone, Copy)]
-struct HexByte(u8);
-
-impl fmt::Display for HexByte {
-    ghost output = { λ x. Some (hex_text x.0) };
-
-    fn fmt<W: fmt::Write>(&self, f: &mut fmt::Formatter<W>) -> fmt::Result {
-        f.write_char(char::from(hex_digit(self.0 / 16)))?;
-        f.write_char(char::from(hex_digit(self.0 % 16)))
-    }
+    char::from(byte).to_digit(16)
 }
 
 // Bytes, to be written as two digits each.
@@ -130,9 +72,8 @@ impl fmt::Display for HexBytes<'_> {
     ghost output = { λ x. Some (flat_map hex_text x.0.now) };
 
     fn fmt<W: fmt::Write>(&self, f: &mut fmt::Formatter<W>) -> fmt::Result {
-        for byte in self.0 {
-            let digits = HexByte(*byte);
-            write!(f, "{digits}")?;
+        for &byte in self.0 {
+            write!(f, "{byte:02x}")?;
         }
         Ok(())
     }

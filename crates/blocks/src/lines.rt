@@ -1,81 +1,80 @@
 // The line that is being read.
-ghost use Rattle.std.specs.Prelude.{◌≡◌, ◌<◌, ◌≤◌, true, false, [], ◌∷◌, ◌++◌, take, ◌==◌};
-ghost use Rattle.std.specs.Option.{option_map};
-ghost use Rattle.blocks.specs.Lines.{text_of, ended};
+ghost use Rattle.std.specs.Prelude.{◌≡◌, ◌↔◌, [], Some, IsTrue, option_map};
+ghost use Rattle.blocks.specs.Lines.{text_of, added, ended};
+
+use arrayvec::ArrayVec;
+use std::marker::Model;
 
 // The longest line that is understood, in bytes.
 pub const LONGEST_LINE: usize = 4096;
+// The room for a line: one byte more, so that a return before the end finds room.
+const ROOM: usize = LONGEST_LINE + 1;
 
-// A line so far: its first bytes, one more than the longest line has so that a return before the end finds room,
-// and whether there were more.
+// A line so far: its bytes, or none once there were more than find room.
 #[derive(Drop)]
 pub struct Line {
-    held: [u8; 4097],
-    len: usize,
-    long: bool,
-    ghost within: { len ≤ 4097 },
+    held: Option<ArrayVec<u8, ROOM>>,
+}
+
+impl Model for Line {
+    ghost use Rattle.std.specs.Prelude.{ℕ, List, Option, option_map};
+
+    ghost Value = { Option (List ℕ) };
+
+    ghost view = { λ line. option_map (λ held. held.items) line.held };
 }
 
 impl Line {
     // A line with no byte yet.
     pub fn new() -> Line
-        ensures { (result.len ≡ 0) × (result.long ≡ false) }
+        ensures { result ≡ Some [] }
     {
         Line {
-            held: [0; 4097],
-            len: 0,
-            long: false,
+            held: Some(ArrayVec::new()),
         }
     }
 
     // Whether it has no byte yet.
     pub fn is_empty(&self) -> bool
-        ensures { result ≡ (self.now.len == 0) }
+        ensures { IsTrue result ↔ (self.now ≡ Some []) }
     {
-        self.len == 0
+        self.held.as_ref().is_some_and(|held| held.is_empty())
     }
 
-    // One more byte; past the room the line is only marked as long.
+    // One more byte; past the room the line has no bytes any more.
     pub fn add(&mut self, byte: u8)
-        ensures kept { self.old.len < 4097 → take self.new.len self.new.held ≡ take self.old.len self.old.held ++ byte ∷ [] }
-        ensures same { self.old.len < 4097 → self.new.long ≡ self.old.long }
-        ensures past { 4097 ≤ self.old.len → self.new.long ≡ true }
+        ensures { self.new ≡ added self.old byte }
     {
-        if self.len < self.held.len() {
-            self.held[self.len] = byte;
-            self.len += 1;
-        } else {
-            self.long = true;
+        if let Some(held) = &mut self.held
+            && held.try_push(byte).is_err()
+        {
+            self.held = None;
         }
     }
 
     // Drops a return from the end of the line.
     pub fn drop_return(&mut self)
-        ensures len { self.new.len ≡ ended self.old.held self.old.len }
-        ensures same { self.new.held ≡ self.old.held }
-        ensures long { self.new.long ≡ self.old.long }
+        ensures { self.new ≡ option_map ended self.old }
     {
-        if self.len > 0 && self.held[self.len - 1] == b'\r' {
-            self.len -= 1;
+        if let Some(held) = &mut self.held
+            && held.last() == Some(&b'\r')
+        {
+            held.pop();
         }
     }
 
     // Makes room for the next line.
     pub fn clear(&mut self)
-        ensures { (self.new.len ≡ 0) × (self.new.long ≡ false) }
+        ensures { self.new ≡ Some [] }
     {
-        self.len = 0;
-        self.long = false;
+        *self = Line::new();
     }
 
     // The bytes of the line, or none where there are too many.
     pub fn text(&self) -> Option<&[u8]>
-        ensures { option_map (λ x. x.now) result ≡ text_of self.now.held self.now.len self.now.long }
+        ensures { option_map (λ text. text.now) result ≡ text_of self.now }
     {
-        if self.long || self.len > LONGEST_LINE {
-            None
-        } else {
-            Some(&self.held[0..self.len])
-        }
+        let text = self.held.as_ref()?.as_slice();
+        (text.len() <= LONGEST_LINE).then_some(text)
     }
 }

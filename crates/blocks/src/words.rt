@@ -3,11 +3,13 @@ ghost use Rattle.std.specs.Prelude.{◌≡◌, ◌≤◌, false, length, MatchOp
 ghost use Rattle.blocks.specs.Words.{blank, blanks, ends_word, quoted_after, word_length, word_of, after_word, with_digit, decimal_value};
 ghost use Rattle.std.specs.Iterator.{at_most};
 
+use std::marker::Model;
+
 // Whether a byte stands between words: a space or a tab.
 pub fn is_blank(byte: u8) -> bool
     ensures { result ≡ blank byte }
 {
-    byte == b' ' || byte == b'\t'
+    matches!(byte, b' ' | b'\t')
 }
 
 // How many blanks a text begins with.
@@ -15,12 +17,7 @@ fn leading_blanks(text: &[u8]) -> usize
     ensures value { result ≡ blanks text.now }
     ensures bound { result ≤ length text.now }
 {
-    for (i, byte) in text.iter().enumerate() {
-        if !is_blank(*byte) {
-            return i;
-        }
-    }
-    text.len()
+    text.iter().take_while(|byte| is_blank(**byte)).count()
 }
 
 // Whether a word ends at a byte: at a blank that does not stand between double quotes.
@@ -38,30 +35,40 @@ fn quoted_after(byte: u8, quoted: bool) -> bool
 }
 
 // How long the first word of a text is.
+#[tactic(auto, using(crate::proofs::Steps::word_here, crate::proofs::Steps::word_end))]
 fn word_length(text: &[u8]) -> usize
     ensures value { result ≡ word_length text.now false }
     ensures bound { result ≤ length text.now }
 {
+    // Kept: a `scan` with the open quote as its state, and then `position`, is no plainer than this loop.
     let mut quoted = false;
-    for (i, byte) in text.iter().enumerate() {
-        if ends_word(*byte, quoted) {
+    for (i, &byte) in text.iter().enumerate() {
+        if ends_word(byte, quoted) {
             return i;
         }
-        quoted = quoted_after(*byte, quoted);
+        quoted = quoted_after(byte, quoted);
     }
     text.len()
 }
 
-// The words of a text, one after the other.
+// The words of a text, one after the other. Contracts see the text that is left.
 #[derive(Drop)]
 pub struct Splitter<'a> {
     rest: &'a [u8],
 }
 
+impl<'a> Model for Splitter<'a> {
+    ghost use Rattle.std.specs.Prelude.{ℕ, List};
+
+    ghost Value = { List ℕ };
+
+    ghost view = { λ words. words.rest.now };
+}
+
 impl<'a> Splitter<'a> {
     // The words of a text, from its first on.
     pub fn new(text: &'a [u8]) -> Splitter<'a>
-        ensures { result.rest.now ≡ text.now }
+        ensures { result ≡ text.now }
     {
         Splitter { rest: text }
     }
@@ -70,38 +77,38 @@ impl<'a> Splitter<'a> {
 impl<'a> Iterator for Splitter<'a> {
     type Item = &'a [u8];
 
-    ghost next_gives = { λ s r t. MatchOption r (length (word_of s.rest.now) ≡ 0) (λ word. word.now ≡ word_of s.rest.now) × (t.rest.now ≡ after_word s.rest.now) };
+    ghost next_gives = { λ s r t. MatchOption r (length (word_of s) ≡ 0) (λ word. word.now ≡ word_of s) × (t ≡ after_word s) };
 
-    ghost remaining = { λ s. at_most (length s.rest.now) };
+    ghost remaining = { λ s. at_most (length s) };
 
     fn next(&mut self) -> Option<&'a [u8]> {
-        let text = &self.rest[leading_blanks(self.rest)..];
+        let (_, text) = self.rest.split_at(leading_blanks(self.rest));
         let (word, rest) = text.split_at(word_length(text));
         self.rest = rest;
-        if word.is_empty() { None } else { Some(word) }
+        (!word.is_empty()).then_some(word)
     }
 }
 
 // A number with one more digit, or none where the byte is no digit or the number passes 32 bits.
-fn with_digit(value: u32, digit: u8) -> Option<u32>
-    ensures { result ≡ with_digit value digit }
+fn with_digit(value: u32, byte: u8) -> Option<u32>
+    ensures { result ≡ with_digit value byte }
 {
-    if !digit.is_ascii_digit() {
-        return None;
-    }
-    value.checked_mul(10)?.checked_add(u32::from(digit - b'0'))
+    let digit = char::from(byte).to_digit(10)?;
+    value.checked_mul(10)?.checked_add(digit)
 }
 
 // The number that a word of decimal digits writes, or none.
+#[tactic(auto, using(crate::proofs::Steps::digits_here, crate::proofs::Steps::digits_end))]
 pub fn decimal(word: &[u8]) -> Option<u32>
     ensures { result ≡ decimal_value word.now }
 {
     if word.is_empty() {
         return None;
     }
+    // Kept: a `try_fold` is no plainer than this `?` and needs an induction by hand; `parse` of a text would take a plus sign too.
     let mut value = 0;
-    for digit in word {
-        value = with_digit(value, *digit)?;
+    for &byte in word {
+        value = with_digit(value, byte)?;
     }
     Some(value)
 }

@@ -1,6 +1,7 @@
-use Rattle.std.proofs.Common.{◌≡◌, ◌+◌, ◌-◌, ◌*◌}
+use Rattle.std.proofs.Common.{◌≡◌, ◌-◌, ◌/◌, ◌%◌}
 use Rattle.block.specs.Reading.{numbers_fit, numbers_from}
 use Rattle.block.proofs.fields.check_numbers.Given as goal
 
-abbrev pub invariant-loop-i : goal.invariant-loop-i
-invariant-loop-i l = numbers_fit (numbers_from l.bytes (24 + 4 * l.i) (l.count - l.i)) (24 + 4 * l.i) ≡ numbers_fit (numbers_from l.bytes 24 l.count) 24
+abbrev pub invariant-loop-at : goal.invariant-loop-at
+invariant-loop-at l =
+    (l.at % 4 ≡ 0) × (numbers_fit (numbers_from l.block l.at ((l.end - l.at) / 4)) l.at ≡ numbers_fit (numbers_from l.block 24 ((l.end - 24) / 4)) 24)

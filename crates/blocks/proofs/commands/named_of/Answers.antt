@@ -1,6 +1,5 @@
-use Rattle.std.proofs.Common.{◌≡◌, ℕ, suc, List, length, get_or, set, Some, None, Option, sym, refl, ap, ◌∙◌, subst}
+use Rattle.std.proofs.Common.{◌≡◌, ℕ, suc, List, length, get_or, set, Some, None, Option, sym, refl, ap, ◌∙◌, subst, arith, rules}
 use Rattle.block.specs.declared.names.Name.{Name}
-use Rattle.blocks.specs.declared.words.Splitter.{Splitter}
 use Rattle.blocks.specs.Words.{word_of, after_word}
 use Rattle.block.specs.Pairs.{pair_of}
 use Rattle.blocks.specs.Commands.{name_in, Entered, AllNamed}
@@ -20,14 +19,14 @@ step n text rest named next all name p q e f h =
 
 pub loop-word-preserved : goal.loop-word-preserved
 loop-word-preserved c n all e =
-    let text = c.loop-word.word-iterator.rest.now in
-    let name = c.in-Some-name_of.name in
-    let named : name_in (word_of text) ≡ Some name = sym (ap name_in c.in-Some.ensures.steps.0) ∙ sym c.name_of.ensures.value ∙ c.in-Some-name_of.is in
-    let put = c.in_ok-put_name.ensures in
-    c.loop-word.invariant (suc n) all (step n text c.next.new.self.rest.now c.loop-word.named c.put_name.new.named all name named put.0 c.in-Some.ensures.steps.1 put.1 e)
+    let text = c.loop-word.word-iterator in
+    let name = c.in_ok-name.name in
+    let named : name_in (word_of text) ≡ Some name = sym (ap name_in c.in-Some.ensures.steps.0) ∙ sym c.name_of.ensures.value ∙ grind arith in
+    let free : get_or c.loop-word.named (pair_of name) None ≡ None = search rules in
+    c.loop-word.invariant (suc n) all (step n text c.next.new.self c.loop-word.named c.put_name.new.named all name named free c.in-Some.ensures.steps.1 c.in_ok-put_name.ensures.entered e)
 
 pub returns : goal.returns
 returns c =
     let named = c.loop-word.named in
-    subst (λ (s : Splitter). AllNamed s.rest.now named) c.into_iter-word-iterator.ensures.into_iter_gives
-    (c.loop-word.invariant 0 named (done c.loop-word.word-iterator.rest.now named c.in-None.ensures.steps.0))
+    subst (λ (text : List ℕ). AllNamed text named) c.into_iter-word-iterator.ensures.into_iter_gives
+    (c.loop-word.invariant 0 named (done c.loop-word.word-iterator named c.in-None.ensures.steps.0))

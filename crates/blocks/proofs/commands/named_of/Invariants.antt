@@ -3,4 +3,4 @@ use Rattle.blocks.specs.Commands.{Entered, AllNamed}
 use Rattle.blocks.proofs.commands.named_of.Given as goal
 
 abbrev pub invariant-loop-word : goal.invariant-loop-word
-invariant-loop-word l = (n : ℕ) (all : List (Option ℕ)) → Entered n l.word-iterator.rest.now l.named all → AllNamed l.initial.word-iterator.rest.now all
+invariant-loop-word l = (n : ℕ) (all : List (Option ℕ)) → Entered n l.word-iterator l.named all → AllNamed l.initial.word-iterator all

@@ -1,26 +1,14 @@
-use Rattle.std.proofs.Common.{ℕ, ◌+◌, ◌*◌, Some, None, sym, ap, ◌∙◌, arith}
+use Rattle.std.proofs.Common.{arith}
+use Rattle.std.proofs.lemmas.Bool.{cond-true, cond-false}
 use Rattle.std.proofs.lemmas.List.{get_or_past}
-use Rattle.block.specs.Numbers.{wide}
-use Rattle.block.specs.Parts.{named_in, named_of}
-use Rattle.block.proofs.Tables.{get_or-named_of, length-named_of, named_on, named_off}
+use Rattle.block.proofs.Tables.{get_or-named_of, length-named_of}
 use Rattle.block.proofs.letters.Letter.named.Goals as goal
-use Rattle.block.proofs.letters.Letter.named.Goals.{else-pair-lt64-via-then-pair-lt64+else-is_named, else-pair-lt64-via-else-pair-lt64}
 
-pub returns-then-is_named : goal.returns-then-is_named
-returns-then-is_named c =
-    let xs = c.args.self.now.block in
-    ap Some (c.number_at.ensures ∙ ap (λ (p : ℕ). wide 4 xs (24 + 4 * p)) c.place.ensures.value)
-    ∙ sym (named_on xs c.mask_at-mask.result c.args.pair (sym c.if-is_named.ensures))
-    ∙ ap (λ (m : ℕ). named_in xs m c.args.pair) c.mask_at-mask.ensures
-    ∙ sym (get_or-named_of xs c.args.pair (omega arith))
+pub returns-then-names : goal.returns-then-names
+returns-then-names c =
+    grind (arith, cond-true, c.self.view_is, c.number_at.ensures, c.place.ensures.value, c.read-mask.ensures, c.from-pair.ensures, c.if-names.ensures, get_or-named_of c.self.inside.block c.args.pair)
 
 pub returns-else-pair-lt64 : goal.returns-else-pair-lt64
 returns-else-pair-lt64 c =
-    let xs = c.args.self.now.block in
-    elim c.else-pair-lt64.branch [
-      | else-pair-lt64-via-then-pair-lt64+else-is_named w ↦
-          sym (named_off xs c.mask_at-mask.result c.args.pair (sym w.if-is_named.ensures))
-          ∙ ap (λ (m : ℕ). named_in xs m c.args.pair) c.mask_at-mask.ensures
-          ∙ sym (get_or-named_of xs c.args.pair (omega arith))
-      | else-pair-lt64-via-else-pair-lt64 w ↦ sym (get_or_past (named_of xs) c.args.pair None (omega (arith, length-named_of xs)))
-    ]
+    let xs = c.self.inside.block in
+    grind (arith, cond-false, c.self.view_is, c.read-mask.ensures, c.from-pair.ensures, c.else-pair-lt64.branch, get_or-named_of xs c.args.pair, get_or_past, length-named_of xs)

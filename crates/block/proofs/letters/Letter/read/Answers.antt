@@ -1,20 +1,16 @@
-use Rattle.std.proofs.Common.{◌≡◌, ℕ, List, Ok, sym, ap, ◌∙◌}
-use Rattle.block.specs.Parts.{parts_of}
-use Rattle.block.specs.Reading.{framed, ranged, cleared, reading}
-use Rattle.block.specs.Writing.{writing}
-use Rattle.block.proofs.Checks.{bind_ok}
-use Rattle.block.proofs.Reread.{writes_back}
+use Rattle.std.proofs.Common.{Ok, sym, subst, ap, ◌∙◌}
+use Rattle.std.proofs.lemmas.Option.{MatchOption-at_some}
+use Rattle.block.specs.Numbers.{Bytes}
+use Rattle.block.proofs.Reread.{says_parts, letter_block, writes_back}
 use Rattle.block.proofs.letters.Letter.read.Goals as goal
 
-pub returns : goal.returns
-returns c =
-    let xs = c.args.bytes.now in
-    let same = c.copy_from_slice.ensures.after in
-    let reads : reading xs ≡ Ok (parts_of xs) =
-    bind_ok (framed xs) _ tt (sym c.in_ok-check_frame.ensures.value)
-    ∙ bind_ok (ranged xs) _ tt (sym c.in_ok-check_ranges.ensures.value)
-    ∙ bind_ok (cleared xs) _ tt (sym c.in_ok-check_zeros.ensures) in
-    record {
-      value = (same, reads ∙ ap (λ (ys : List ℕ). Ok (parts_of ys)) (sym same));
-      again = ap (λ (ys : List ℕ). writing 512 (parts_of ys)) same ∙ writes_back (parts_of xs) xs (λ i. (c.type_inv.bytes i).fits) reads;
-    }
+pub invariant_of-result : goal.invariant_of-result
+invariant_of-result c =
+    let same = (MatchOption-at_some _ _ _ c.in_ok-block.ensures.ok_part c.as_array.ensures.cases).same in
+    letter_block c.in_ok-block.block.now (subst Bytes (sym same) (λ i. (c.type_inv.bytes i).fits))
+    (says_parts _ (sym c.in_ok-check_frame.ensures) (sym c.in_ok-check_ranges.ensures.value) (sym c.in_ok-check_zeros.ensures))
+
+pub returns-clause-again : goal.returns-clause-again
+returns-clause-again c =
+    let same = (MatchOption-at_some _ _ _ c.in_ok-block.ensures.ok_part c.as_array.ensures.cases).same in
+    writes_back _ c.in_ok-block.block.now (subst Bytes (sym same) (λ i. (c.type_inv.bytes i).fits)) (invariant_of-result c).says ∙ ap Ok same
