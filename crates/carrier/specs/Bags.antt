@@ -4,7 +4,7 @@
 --   OneMore     one bag is another with one more copy of a block
 --   SameBag     two bags have the same blocks, each as many times
 --   CountsOnce  one more copy of a block counts once, whatever is counted
-use Rattle.std.specs.Prelude.{◌≡◌, ℕ, ◌+◌, Bool, cond, List, ◌∷◌, count_by}
+use Rattle.std.specs.Prelude.{◌≡◌, ℕ, ◌+◌, Bool, if◌then◌else◌, List, ◌∷◌, count_by}
 
 abbrev pub Block : Type 0
 Block = List ℕ
@@ -23,4 +23,4 @@ SameBag {X} xs ys = (test : X → Bool) → count_by test xs ≡ count_by test y
 
 -- of what a test picks out, a bag with one more copy of a block has one more where the test picks out the block, and else as many
 abbrev pub CountsOnce : Type 0
-CountsOnce = (block : Block) (more fewer : List Block) → OneMore block more fewer → (test : Block → Bool) → count_by test more ≡ cond (test block) 1 0 + count_by test fewer
+CountsOnce = (block : Block) (more fewer : List Block) → OneMore block more fewer → (test : Block → Bool) → count_by test more ≡ (if test block then 1 else 0) + count_by test fewer

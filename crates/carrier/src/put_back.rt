@@ -5,8 +5,9 @@ use crate::meaning::Carrier;
 use block::Block;
 
 // Takes a block for a station and puts it back, which is never refused: the bag is as before.
+#[tactic(auto, using(crate::proofs::Bagging::more_length, crate::proofs::Bagging::same_more))]
 pub fn take_and_put_back<C: Carrier>(carrier: &mut C, station: u8, into: &mut Block) -> Option<()>
-    ensures { PutsBack station result into.old into.new (C.Carrier.bag carrier.old) (C.Carrier.bag carrier.new) (C.Carrier.limit carrier.old) (C.Carrier.limit carrier.new) }
+    ensures { PutsBack station result into.old into.new (C.meaning carrier.old) (C.meaning carrier.new) }
 {
     carrier.take(station, into)?;
     carrier.put(station, into).unwrap();

@@ -13,6 +13,6 @@ impl Stations {
     pub fn contains(&self, station: u8) -> bool
         ensures { result ≡ member self.now station }
     {
-        station < 8 && self.has[station as usize]
+        self.has.get(usize::from(station)).copied().unwrap_or(false)
     }
 }

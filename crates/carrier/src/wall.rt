@@ -1,7 +1,7 @@
 // The wall: two carriers, each for its own stations.
 ghost use Rattle.std.specs.Prelude.{◌≡◌, ℕ, []};
 ghost use Rattle.carrier.specs.Meaning.{Puts, Takes};
-ghost use Rattle.carrier.specs.Walls.{wall_waits, wall_limits, OtherSideKept};
+ghost use Rattle.carrier.specs.Walls.{sides_of, set_of, wall_means, OtherSideKept};
 ghost use Rattle.std.proofs.Common.{rules};
 
 use crate::faults::CarrierFault;
@@ -20,8 +20,11 @@ pub struct Wall<A, B> {
 impl<A: Carrier, B: Carrier> Wall<A, B> {
     // The wall of two carriers, with what waits in them.
     pub fn new(first: A, second: B, of_first: Stations) -> Wall<A, B>
-        ensures sides { (result.first ≡ first) × (result.second ≡ second) × (result.of_first ≡ of_first) }
-        ensures empty { (station : ℕ) → A.Carrier.bag first station ≡ [] → B.Carrier.bag second station ≡ [] → wall_waits result A.Carrier.bag B.Carrier.bag station ≡ [] }
+        ensures sides { sides_of result ≡ (first, second) }
+        ensures set { set_of result ≡ of_first }
+        ensures empty { (station : ℕ) → (A.meaning first).bag station ≡ []
+            → (B.meaning second).bag station ≡ []
+            → (wall_means result A.meaning B.meaning).bag station ≡ [] }
     {
         Wall {
             first,
@@ -32,21 +35,16 @@ impl<A: Carrier, B: Carrier> Wall<A, B> {
 
     // Hands back the two carriers.
     pub fn into_sides(self) -> (A, B)
-        ensures { (result.0 ≡ self.first) × (result.1 ≡ self.second) }
+        ensures { result ≡ sides_of self }
     {
-        let Wall {
-            first,
-            second,
-            of_first: _,
-        } = self;
-        (first, second)
+        (self.first, self.second)
     }
 }
 
+// Kept: each call chooses its side by an `if`; a function that lends the side would hand out a dyn value, or an enum of
+// both, in which each call would choose again.
 impl<A: Carrier, B: Carrier> Carrier for Wall<A, B> {
-    ghost bag = { λ c. wall_waits c A.Carrier.bag B.Carrier.bag };
-
-    ghost limit = { λ c. wall_limits c A.Carrier.limit B.Carrier.limit };
+    ghost meaning = { λ c. wall_means c A.meaning B.meaning };
 
     ghost lawful = { Prim.search rules };
 
@@ -67,7 +65,8 @@ impl<A: Carrier, B: Carrier> Carrier for Wall<A, B> {
     }
 
     fn put(&mut self, station: u8, block: &Block) -> Result<(), CarrierFault>
-        ensures meaning { Puts station block.now result (wall_waits self.old A.Carrier.bag B.Carrier.bag) (wall_waits self.new A.Carrier.bag B.Carrier.bag) (wall_limits self.old A.Carrier.limit B.Carrier.limit) (wall_limits self.new A.Carrier.limit B.Carrier.limit) }
+        ensures puts { Puts station block.now result
+            (wall_means self.old A.meaning B.meaning) (wall_means self.new A.meaning B.meaning) }
         ensures kept { OtherSideKept station self.old self.new }
     {
         if self.of_first.contains(station) {
@@ -78,7 +77,8 @@ impl<A: Carrier, B: Carrier> Carrier for Wall<A, B> {
     }
 
     fn take(&mut self, station: u8, into: &mut Block) -> Option<()>
-        ensures meaning { Takes station result into.old into.new (wall_waits self.old A.Carrier.bag B.Carrier.bag) (wall_waits self.new A.Carrier.bag B.Carrier.bag) (wall_limits self.old A.Carrier.limit B.Carrier.limit) (wall_limits self.new A.Carrier.limit B.Carrier.limit) }
+        ensures takes { Takes station result into.old into.new
+            (wall_means self.old A.meaning B.meaning) (wall_means self.new A.meaning B.meaning) }
         ensures kept { OtherSideKept station self.old self.new }
     {
         if self.of_first.contains(station) {

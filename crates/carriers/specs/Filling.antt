@@ -3,14 +3,14 @@
 --   FullFor  as many blocks wait for the station as may
 --   NoneFor  no block waits for the station
 use Rattle.std.specs.Prelude.{◌≡◌, ℕ, [], length, ◌≢◌}
-use Rattle.carrier.specs.Bags.{Bags}
+use Rattle.carrier.specs.Meaning.{Meaning}
 
-pub record OnlyFor (station : ℕ) (before after : Bags) (limit limit' : ℕ → ℕ) : Type 0 where
-  pub others : (other : ℕ) → (other ≢ station) → after other ≡ before other
-  pub limits : (each : ℕ) → limit' each ≡ limit each
+pub record OnlyFor (station : ℕ) (before after : Meaning) : Type 0 where
+  pub others : (other : ℕ) → (other ≢ station) → after.bag other ≡ before.bag other
+  pub limits : (each : ℕ) → after.limit each ≡ before.limit each
 
-abbrev pub FullFor : ℕ → Bags → (ℕ → ℕ) → Type 0
-FullFor station bags limit = length (bags station) ≡ limit station
+abbrev pub FullFor : ℕ → Meaning → Type 0
+FullFor station carrier = length (carrier.bag station) ≡ carrier.limit station
 
-abbrev pub NoneFor : ℕ → Bags → Type 0
-NoneFor station bags = bags station ≡ []
+abbrev pub NoneFor : ℕ → Meaning → Type 0
+NoneFor station carrier = carrier.bag station ≡ []

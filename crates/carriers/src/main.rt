@@ -2,8 +2,8 @@
 #![tactic(auto)]
 
 use block::Block;
-use carrier::{Carrier, Stations, Wall};
-use filling::{empty, fill, put_back};
+use carrier::{Stations, Wall};
+use filling::Trial;
 use places::{Reel, Tray, Unmade};
 
 mod filling;
@@ -18,45 +18,33 @@ fn wall_of(memory: Vec<Block>) -> Result<Wall<Tray, Reel>, Unmade> {
     Ok(Wall::new(tray, Reel::new(), of_first))
 }
 
-// Fills a station's bag and empties it, twice; before the second emptying one block is taken and put back.
-fn fill_twice<C: Carrier>(rt: &HostRuntime, carrier: &mut C, station: u8) -> anyhow::Result<()> {
-    let limit = carrier.limit(station);
-    println!(rt; "station {station}: {limit} may wait")?;
-    fill(rt, carrier, station, 1)?;
-    empty(rt, carrier, station)?;
-    fill(rt, carrier, station, 11)?;
-    put_back(rt, carrier, station)?;
-    empty(rt, carrier, station)
-}
-
 // Makes a wall in a memory of so many blocks, uses it, and takes it apart again.
 fn run(rt: &HostRuntime, blocks: usize) -> anyhow::Result<()> {
     let memory = vec![in rt.alloc(); [0u8; 512]; blocks]?;
-    let mut wall = match wall_of(memory) {
+    let wall = match wall_of(memory) {
         Ok(wall) => wall,
         Err(unmade) => {
-            let refusal = unmade.fault.number();
+            let fault = unmade.fault;
             let back = unmade.memory.len();
-            println!(rt; "tray of {blocks} blocks: refused {refusal}, {back} handed back")?;
+            println!(rt; "tray of {blocks} blocks: {fault}, {back} handed back")?;
             return Ok(());
         }
     };
     println!(rt; "tray of {blocks} blocks: made")?;
+    let mut trial = Trial { rt, carrier: wall };
     for station in [2, 5, 8] {
-        fill_twice(rt, &mut wall, station)?;
+        trial.fill_twice(station)?;
     }
-    let (tray, _) = wall.into_sides();
+    let (tray, _) = trial.carrier.into_sides();
     let back = tray.into_memory().len();
     println!(rt; "tray of {blocks} blocks: {back} handed back")?;
     Ok(())
 }
 
-// A memory that is too small, and one for three places a station.
-fn run_all(rt: &HostRuntime) -> anyhow::Result<()> {
-    run(rt, 7)?;
-    run(rt, 24)
-}
-
+// Runs with a memory that is too small, and with one for three places a station.
 fn main(rt: HostRuntime) -> anyhow::Result<()> {
-    run_all(&rt)
+    for blocks in [7, 24] {
+        run(&rt, blocks)?;
+    }
+    Ok(())
 }

@@ -1,111 +1,74 @@
 -- What a write to the share of one station leaves of every station's records.
-use Rattle.std.proofs.Common.{◌≡◌, ℕ, ◌+◌, ◌-◌, ◌*◌, ◌<◌, ◌≤◌, ◌⊎◌, List, [], ◌∷◌, ◌++◌, length, get_or, take, drop, set, Some, None, Ok, Err, Option, sym, ap, ◌∙◌, inl, inr, ⊎_elim, mul-le-mul_left, mul-suc, arith}
-use borrow.Rule.Slice.PartMut.{put_mid, put_same}
+use Rattle.std.proofs.Common.{◌≡◌, ℕ, ◌+◌, ◌-◌, ◌*◌, ◌<◌, ◌≤◌, ◌≢◌, min, nat_lt, cond, List, [], length, get_or, take, drop, set, Option, Some, None, refl, sym, ap, ◌∙◌, ⊎_elim, mul-le-mul_left, mul-suc, length-append, arith}
+use borrow.Rule.Slice.PartMut.{put_mid}
 use Rattle.std.specs.List.{between, remove}
-use Rattle.std.proofs.lemmas.List.{drop-take, get_or-set_same, get_or-set_other}
-use Rattle.std.proofs.lemmas.List.Edits.{length-between}
+use Rattle.std.proofs.lemmas.List.{drop-take, take_min, drop_min, length-take, length-drop, get_or-set_same, get_or-set_other}
 use Rattle.std.proofs.lemmas.Slice.{drop-put_mid, take-put_mid_below, between-put_mid}
-use Rattle.std.proofs.lemmas.Bool.{lt-ltb, le-ltb, ne_eqb, eq-eqb, cases_lt, cases_order, cond-true, cond-false}
+use Rattle.std.proofs.lemmas.Bool.Decides.{nat_tests}
+use Rattle.std.proofs.lemmas.Bool.{cases_order}
 use Rattle.run.specs.declared.Run.{Run}
-use Rattle.run.specs.Records.{records, Added, Filled, Removing}
-use Rattle.carrier.specs.declared.faults.CarrierFault.TheVariants.{Full}
-use Rattle.carrier.specs.Meaning.{put_answer}
-use Rattle.places.specs.Shares.{empty_run, share, held, room, TakenAt}
+use Rattle.run.specs.Records.{empty_run, records, Removing}
+use Rattle.places.specs.Shares.{share, room}
 
--- what is read from b on is not touched by a write to the places from a to e that lies apart
-apart : {X : Type 0} (xs ys : List X) (a e b m : ℕ) → a ≤ e → e ≤ length xs → length ys ≡ e - a
-    → (b + m ≤ a) ⊎ (e ≤ b) → take m (drop b (put_mid a (e - a) xs ys)) ≡ take m (drop b xs)
-apart xs ys a e b m le fits l way =
-    ⊎_elim
-    (λ h. sym (drop-take b m (put_mid a (e - a) xs ys)) ∙ (ap (drop b) (take-put_mid_below a (e - a) xs ys (b + m) h (omega arith)) ∙ drop-take b m xs))
-    (λ h. ap (take m) (drop-put_mid a (e - a) xs ys b (omega arith) (omega arith) l))
-    way
+-- the records of a station, where each has so many places and the runs are these
+abbrev held_in : {X : Type 0} → ℕ → List Run → List X → ℕ → List X
+held_in each runs places s = cond (nat_lt s 8) (records (get_or runs s empty_run) (share each places s)) []
 
--- the records of a station from 0 to 7, and of any other number
-held_at : {X : Type 0} (each : ℕ) (runs : List Run) (places : List X) (s : ℕ) → s < 8 → held each runs places s ≡ records (get_or runs s empty_run) (share each places s)
-held_at each runs places s h = cond-true _ _ _ (lt-ltb s 8 h)
+-- a record that is there is removed
+pub record_removed : {X : Type 0} (o : Option X) (at : ℕ) (run run' : Run) (places places' : List X) → at < length (records run places) → Removing o at run run' places places'
+    → records run' places' ≡ remove (records run places) at
+record_removed (Some x) at run run' places places' h e = e.now_held
+record_removed None at run run' places places' h e = absurd (omega (arith, h, e.past))
 
-held_above : {X : Type 0} (each : ℕ) (runs : List Run) (places : List X) (s : ℕ) → 8 ≤ s → held each runs places s ≡ []
-held_above each runs places s h = cond-false _ _ _ (le-ltb s 8 h)
+-- where the places are enough for eight shares, each share is whole
+pub room_whole : {X : Type 0} (each limit : ℕ) (places : List X) (s : ℕ) → each ≡ limit → each * 8 ≤ length places → room (length (share each places s)) s ≡ room limit s
+room_whole each limit places s same enough = grind (arith, nat_tests, length-take, length-drop, eight)
+  where
+    eight : (n : ℕ) → n < 8 → each * n + each ≤ each * 8
+    eight n h = omega (arith, mul-le-mul_left each h, mul-suc each n)
 
--- only stations from 0 to 7 have records
-pub held_below : {X : Type 0} (each : ℕ) (runs : List Run) (places : List X) (s : ℕ) → 0 < length (held each runs places s) → s < 8
-held_below each runs places s h = ⊎_elim (λ k. k) (λ k. absurd (omega (arith, ap length (held_above each runs places s k)))) (cases_lt s 8)
+-- the share of s runs from a to e
+module _ {X : Type 0} (each : ℕ) (places : List X) (s a e : ℕ) (from : a ≡ min (each * s) (length places)) (to : e ≡ min (each * s + each) (length places)) where
+  share_is : (xs : List X) → length xs ≡ length places → share each xs s ≡ between a e xs
+  share_is xs l =
+      let begin : drop (each * s) xs ≡ drop a xs = sym (drop_min (each * s) xs) ∙ ap (λ k. drop k xs) (omega arith) in
+      let wide : min each (length (drop a xs)) ≡ e - a = simp length-drop (omega arith) in
+      ap (take each) begin ∙ (sym (take_min each (drop a xs)) ∙ ap (λ k. take k (drop a xs)) wide)
 
--- the share of s begins at a and lies within the places
-pub record Placed {X : Type 0} (each : ℕ) (places : List X) (s a : ℕ) : Type 0 where
-  pub station : s < 8
-  pub from : a ≡ each * s
-  pub inside : a + each ≤ length places
+  -- the records of s are those of its run over the part that is lent
+  pub held_is : (runs : List Run) (i : ℕ) → s < 8 → i ≡ s → held_in each runs places s ≡ records (get_or runs i empty_run) (between a e places)
+  held_is runs i h is = let k = share_is places refl in grind (arith, nat_tests)
 
-module _ {X : Type 0} {each : ℕ} {places : List X} {s a : ℕ} (l : Placed each places s a) where
-  part_length : length (between a (a + each) places) ≡ each
-  part_length = length-between places a (a + each) l.inside ∙ omega arith
+  -- the part holds ys now
+  module _ (ys : List X) (long : length ys ≡ e - a) where
+    abbrev now : List X
+    now = put_mid a (e - a) places ys
 
-  -- a list's share of s, as the part that is lent
-  share_is : (xs : List X) → share each xs s ≡ between a (a + each) xs
-  share_is xs = ap (λ k. take each (drop k xs)) (sym l.from) ∙ ap (λ k. take k (drop a xs)) (width each a)
-    where
-      width : (n m : ℕ) → n ≡ m + n - m
-      width n m = omega arith
+    as_long : length now ≡ length places
+    as_long = simp (length-append, length-take, length-drop) (omega arith)
 
-  pub held_is : (runs : List Run) → held each runs places s ≡ records (get_or runs s empty_run) (between a (a + each) places)
-  held_is runs = held_at each runs places s l.station ∙ ap (records (get_or runs s empty_run)) (share_is places)
-
-  limited : room each s ≡ each
-  limited = cond-true _ _ _ (lt-ltb s 8 l.station)
-
-  -- a record finds room, or the share is full
-  pub added_answer : {x : X} {run' : Run} {ys : List X} (runs : List Run) → Added x (get_or runs s empty_run) run' (between a (a + each) places) ys
-      → Ok tt ≡ put_answer (length (held each runs places s)) (room each s)
-  added_answer runs e =
-      let less : length (held each runs places s) < room each s = omega (arith, ap length (held_is runs), e.room, part_length, limited) in
-      sym (cond-false _ _ _ (ne_eqb (length (held each runs places s)) (room each s) (λ q. omega arith)))
-
-  pub full_answer : {run' : Run} {ys : List X} (runs : List Run) → Filled (get_or runs s empty_run) run' (between a (a + each) places) ys
-      → Err Full ≡ put_answer (length (held each runs places s)) (room each s)
-  full_answer runs e = sym (cond-true _ _ _ (eq-eqb _ _ (ap length (held_is runs) ∙ (ap length e.no_room ∙ (part_length ∙ sym limited)))))
-
-  -- a part that is as it was leaves all records as they were
-  pub untouched : (runs : List Run) (ys : List X) → ys ≡ between a (a + each) places → (t : ℕ) → held each runs (put_mid a (a + each - a) places ys) t ≡ held each runs places t
-  untouched runs ys e t = ap (λ xs. held each runs xs t) (ap (put_mid a (a + each - a) places) e ∙ put_same a (a + each - a) places)
-
-  module _ (runs : List Run) (run' : Run) (ys : List X) (known : s < length runs) (long : length ys ≡ length (between a (a + each) places)) where
-    as_long : length ys ≡ a + each - a
-    as_long = long ∙ length-between places a (a + each) l.inside
-
-    -- the records of s are those of the new run over what was written
-    is_now : held each (set runs s run') (put_mid a (a + each - a) places ys) s ≡ records run' ys
-    is_now =
-        held_at each (set runs s run') (put_mid a (a + each - a) places ys) s l.station
-        ∙ (ap (λ r. records r (share each (put_mid a (a + each - a) places ys) s)) (get_or-set_same runs s run' empty_run known)
-        ∙ ap (records run') (share_is (put_mid a (a + each - a) places ys) ∙ between-put_mid a (a + each - a) places ys (a + each) (omega (arith, l.inside)) as_long))
+    -- those of the run that was put back, over what the share holds now
+    pub own_now : (runs : List Run) (run' : Run) (i : ℕ) → s < 8 → i ≡ s → i < length runs → held_in each (set runs i run') (put_mid a (e - a) places ys) s ≡ records run' ys
+    own_now runs run' i h is known = let k = share_is now as_long ∙ between-put_mid a (e - a) places ys e (omega arith) long in grind (arith, nat_tests, get_or-set_same)
 
     -- the other stations' records are as they were
-    pub rest : (t : ℕ) → (t ≡ s → ⊥) → held each (set runs s run') (put_mid a (a + each - a) places ys) t ≡ held each runs places t
-    rest t ne =
-        ⊎_elim
-        (λ h. held_at each (set runs s run') (put_mid a (a + each - a) places ys) t h
-        ∙ (ap (λ r. records r (share each (put_mid a (a + each - a) places ys) t)) (get_or-set_other runs s t run' empty_run ne)
-        ∙ (ap (records (get_or runs t empty_run)) (apart places ys a (a + each) (each * t) each (omega arith) l.inside as_long (side (cases_order t s)))
-        ∙ sym (held_at each runs places t h))))
-        (λ h. held_above each (set runs s run') (put_mid a (a + each - a) places ys) t h ∙ sym (held_above each runs places t h))
-        (cases_lt t 8)
-      where
-        side : (t ≡ s) ⊎ ((t < s) ⊎ (s < t)) → (each * t + each ≤ a) ⊎ (a + each ≤ each * t)
-        side (inl q) = absurd (ne q)
-        side (inr (inl q)) = inl (omega (arith, l.from, mul-le-mul_left each q, mul-suc each t))
-        side (inr (inr q)) = inr (omega (arith, l.from, mul-le-mul_left each q, mul-suc each s))
+    module _ (t : ℕ) (ne : t ≢ s) where
+      share_kept : share each now t ≡ share each places t
+      share_kept = ⊎_elim (λ q. absurd (ne q)) (⊎_elim (λ q. early (omega (arith, mul-le-mul_left each q, mul-suc each t))) (λ q. late (omega (arith, mul-le-mul_left each q, mul-suc each s)))) (cases_order t s)
+        where
+          early : each * t + each ≤ each * s → share each now t ≡ share each places t
+          early h =
+              let n = min (each * t + each) (length places) in
+              let cut : take (each * t + each) now ≡ take (each * t + each) places
+              = sym (take_min (each * t + each) now) ∙ (ap (λ l. take (min (each * t + each) l) now) as_long
+              ∙ (take-put_mid_below a (e - a) places ys n (omega arith) (omega arith) ∙ take_min (each * t + each) places)) in
+              sym (drop-take (each * t) each now) ∙ (ap (drop (each * t)) cut ∙ drop-take (each * t) each places)
 
-    -- a record was added
-    pub added_own : {x : X} → Added x (get_or runs s empty_run) run' (between a (a + each) places) ys
-        → held each (set runs s run') (put_mid a (a + each - a) places ys) s ≡ held each runs places s ++ x ∷ []
-    added_own {x} e = is_now ∙ (e.now_held ∙ ap (λ xs. xs ++ x ∷ []) (sym (held_is runs)))
+          late : each * s + each ≤ each * t → share each now t ≡ share each places t
+          late h = ap (take each) (drop-put_mid a (e - a) places ys (each * t) (omega arith) (omega arith) long)
 
-    -- the record at a place was read and removed
-    pub taken_at : {at : ℕ} (x : X) {x' : X} → (at < length (records (get_or runs s empty_run) (between a (a + each) places))) × ((d : X) → x' ≡ get_or (records (get_or runs s empty_run) (between a (a + each) places)) at d)
-        → (o : Option X) → Removing o at (get_or runs s empty_run) run' (between a (a + each) places) ys
-        → TakenAt (Some tt) at x x' (held each runs places s) (held each (set runs s run') (put_mid a (a + each - a) places ys) s)
-    taken_at {at} x r (Some y) e =
-        (omega (arith, ap length (held_is runs), e.inside), (λ d. r.1 d ∙ ap (λ xs. get_or xs at d) (sym (held_is runs))), is_now ∙ (e.now_held ∙ ap (λ xs. remove xs at) (sym (held_is runs))))
-    taken_at x r None e = absurd (omega (arith, r.0, e.past))
+      pub others_kept : (runs : List Run) (run' : Run) (i : ℕ) → i ≡ s → held_in each (set runs i run') (put_mid a (e - a) places ys) t ≡ held_in each runs places t
+      others_kept runs run' i is = let k = share_kept in let r = get_or-set_other runs i t run' empty_run (λ q. ne (q ∙ is)) in grind (arith, nat_tests)
+
+-- what adds and takes need
+pub ruleset shared = (record_removed, held_is, own_now, others_kept)

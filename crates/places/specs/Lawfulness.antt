@@ -1,32 +1,31 @@
 -- Why reel and tray are lawful carriers: the proofs that their laws cite.
 --   lawful_held  where each station has from 1 to 1,000 places, limits and bags are as a carrier's have to be
---   reel_lawful  so they are with 4 places for each station
---   tray_lawful  and with an eighth of 8 blocks or more, at most 64
-use Rattle.std.specs.Prelude.{ℕ, ◌/◌, ◌≤◌, min, List, nat_lt}
-use Rattle.std.proofs.Common.{arith, ⊎_elim}
+--   reel_lawful  so they are in a reel
+--   tray_lawful  and in a tray
+use Rattle.std.specs.Prelude.{◌≡◌, ℕ, List, vec_items, vec_len}
+use Rattle.std.proofs.Common.{arith}
 use Rattle.std.proofs.lemmas.List.{length-take}
-use Rattle.std.proofs.lemmas.Bool.{lt-ltb, le-ltb, cases_lt, cond-false, cond_both}
-use Rattle.run.specs.declared.Run.{Run}
+use Rattle.std.proofs.lemmas.Bool.Decides.{nat_tests}
 use Rattle.carrier.specs.Bags.{Block}
 use Rattle.carrier.specs.Meaning.{Lawful}
-use Rattle.places.specs.Shares.{held, room}
+use Rattle.places.specs.Reels.{reel_means}
+use Rattle.places.specs.Shares.{eighth, held, room}
+use Rattle.places.specs.Trays.{tray_means}
+use Rattle.places.specs.declared.reel.Reel.{Reel}
+use Rattle.places.specs.declared.shares.Shares.{Shares}
+use Rattle.places.specs.declared.tray.Tray.{Tray}
 
-pub lawful_held : (each : ℕ) (runs : List Run) (places : List Block) → 1 ≤ each → each ≤ 1000 → (s : ℕ) → Lawful s (room each s) (held each runs places s)
-lawful_held each runs places low high s = record {
-  low = λ h. rw (lt-ltb s 8 h) low;
-  high = cond_both (nat_lt s 8) each 0 (λ n. n ≤ 1000) (λ _. high) (λ _. omega arith);
-  above = λ h. cond-false _ _ _ (le-ltb s 8 h);
-  within = ⊎_elim
-      (λ h. let e = lt-ltb s 8 h in simp (e, length-take) (few _ _ _))
-      (λ h. let e = le-ltb s 8 h in simp e (omega arith))
-      (cases_lt s 8);
+pub lawful_held : (shares : Shares) (places : List Block) (limit : ℕ) → shares.each ≡ limit → (s : ℕ)
+    → Lawful s (record { bag = held shares places; limit = room limit })
+lawful_held shares places limit e s = record {
+  low = λ h. grind (arith, nat_tests);
+  high = grind (arith, nat_tests);
+  above = λ h. grind (arith, nat_tests);
+  within = grind (arith, nat_tests, length-take);
 }
-  where
-    few : (n m k : ℕ) → min n (min m k) ≤ m
-    few n m k = omega arith
 
-pub reel_lawful : (runs : List Run) (places : List Block) (s : ℕ) → Lawful s (room 4 s) (held 4 runs places s)
-reel_lawful runs places s = lawful_held 4 runs places (omega arith) (omega arith) s
+pub reel_lawful : (reel : Reel) (s : ℕ) → Lawful s (reel_means reel)
+reel_lawful reel s = lawful_held reel.shares reel.places 4 reel.four s
 
-pub tray_lawful : (blocks : ℕ) → 8 ≤ blocks → (runs : List Run) (places : List Block) (s : ℕ) → Lawful s (room (min (blocks / 8) 64) s) (held (min (blocks / 8) 64) runs places s)
-tray_lawful blocks enough runs places s = lawful_held (min (blocks / 8) 64) runs places (omega arith) (omega arith) s
+pub tray_lawful : (tray : Tray) (s : ℕ) → Lawful s (tray_means tray)
+tray_lawful tray s = lawful_held tray.shares (vec_items tray.memory) (eighth (vec_len tray.memory)) tray.eighth s

@@ -19,24 +19,24 @@ mod tests {
     #[test]
     fn trays_by_memory(rt: HostRuntime) -> Result<(), Fail> {
         let table = [
-            (7, 0),
-            (8, 1),
-            (15, 1),
-            (16, 2),
-            (511, 63),
-            (512, 64),
-            (600, 64),
+            (7, None),
+            (8, Some(1)),
+            (15, Some(1)),
+            (16, Some(2)),
+            (511, Some(63)),
+            (512, Some(64)),
+            (600, Some(64)),
         ];
         for (blocks, places) in table {
             let memory = vec![in rt.alloc(); [0u8; 512]; blocks]?;
             match Tray::new(memory) {
                 Ok(tray) => {
-                    assert_eq!(rt; tray.limit(7), places);
+                    assert_eq!(rt; Some(tray.limit(7)), places);
                     assert_eq!(rt; Tray::accepts(blocks), Ok(()));
                     assert_eq!(rt; tray.into_memory().len(), blocks);
                 }
                 Err(unmade) => {
-                    assert_eq!(rt; places, 0);
+                    assert_eq!(rt; places, None);
                     assert_eq!(rt; unmade.fault.number(), 4);
                     assert_eq!(rt; Tray::accepts(blocks), Err(CarrierFault::SmallMemory));
                     assert_eq!(rt; unmade.memory.len(), blocks);

@@ -1,5 +1,5 @@
 // The turns of a tray: the newest block and the oldest.
-ghost use Rattle.std.specs.Prelude.{◌≡◌, ◌<◌};
+ghost use Rattle.std.specs.Prelude.{◌≡◌};
 ghost use Rattle.places.specs.Turns.{other, place_of};
 
 // Which of a station's blocks the next take hands over.
@@ -10,13 +10,12 @@ pub(crate) enum Turn {
 }
 
 impl Turn {
-    // The place of its block among so many, listed from the oldest to the newest.
+    // The place of its block among so many, listed from the oldest to the newest; 0 among none.
     pub(crate) fn place(self, count: usize) -> usize
-        requires { 0 < count }
         ensures { result ≡ place_of self count }
     {
         match self {
-            Turn::Newest => count - 1,
+            Turn::Newest => count.saturating_sub(1),
             Turn::Oldest => 0,
         }
     }
