@@ -61,6 +61,7 @@ impl Letter {
     {
         let mask = Mask::read(&self.block);
         let pair = usize::from(pair);
+        // Kept: an `if`; by `then` its three cases are one goal, which was left open.
         if pair < 64 && mask.names(pair) {
             Some(number_at(&self.block, mask.place(pair)))
         } else {

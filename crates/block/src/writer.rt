@@ -13,7 +13,8 @@ use crate::masks::Mask;
 use crate::names::{Name, Named};
 
 // Writes the letter's block into memory of 512 bytes; a refusal leaves the memory as it was.
-// Kept: name, table and body apart, as callers have them; a struct of the three would be made just to be taken apart here.
+// Kept: name, table and body apart, here and in `block_of`; a draft's body may be a buffer of its own, so a struct of the
+// three would be made for each call just to be taken apart here.
 pub fn write(name: Name, named: &Named, body: &[u8], memory: &mut [u8]) -> Result<(), BlockFault>
     ensures value { MatchResult result
         (λ _. writing (length memory.old) (parts name named.now body.now) ≡ Ok memory.new)
@@ -39,7 +40,8 @@ pub fn block_of(name: Name, named: &Named, body: &[u8]) -> Result<Block, BlockFa
 }
 
 // The numbers that a letter names, by pair, with their mask.
-// Kept: its two methods each go through the table; an iterator over places and numbers would be one more struct and impl.
+// Kept: its two methods each go through the table; an iterator over places and numbers would be one more struct and impl,
+// since no function may answer an `impl Iterator`.
 #[derive(Clone, Copy)]
 struct Table<'a> {
     named: &'a Named,

@@ -5,7 +5,9 @@
 --   hex_text   the two digits of a byte
 --   pushed     bytes with one more
 --   hex_bytes  the bytes that digits write
-use Rattle.std.specs.Prelude.{ℕ, ◌+◌, ◌-◌, ◌*◌, ◌/◌, ◌%◌, Bool, if◌then◌else◌, ◌&&◌, List, [], ◌∷◌, ◌++◌, length, Some, None, Ok, Err, Option, Result, nat_le, nat_lt}
+--   ReadsAs    that an answer has such bytes, or such a reason
+use Rattle.std.specs.Prelude.{◌≡◌, ℕ, ◌+◌, ◌-◌, ◌*◌, ◌/◌, ◌%◌, Bool, if◌then◌else◌, ◌&&◌, List, [], ◌∷◌, ◌++◌, length, Some, None, Ok, Err, Option, Result, nat_le, nat_lt}
+use Rattle.arrayvec.specs.ArrayVec.{ArrayVec}
 use Rattle.blocks.specs.declared.commands.Misread.{Misread}
 use Rattle.blocks.specs.declared.commands.Misread.TheVariants.{BadDigit, OddDigits}
 use Rattle.blocks.specs.Words.{blank, by_some}
@@ -39,3 +41,8 @@ hex_bytes (b ∷ bs) bytes high =
     if blank b then hex_bytes bs bytes high
     else by_some (hex_value b) (Err BadDigit) (λ d.
     by_some high (hex_bytes bs bytes (Some d)) (λ h. hex_bytes bs (pushed bytes (16 * h + d)) None))
+
+-- that an answer has these bytes, or this reason
+abbrev pub ReadsAs : Result (ArrayVec ℕ) Misread → Result (List ℕ) Misread → Type 0
+ReadsAs (Ok bytes) read = read ≡ Ok bytes.items
+ReadsAs (Err reason) read = read ≡ Err reason

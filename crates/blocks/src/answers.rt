@@ -152,7 +152,7 @@ impl fmt::Display for Body<'_> {
 #[cfg(test)]
 mod tests {
     use super::*;
-    use block::{Named, write};
+    use block::{Named, block_of};
     use std::io::Cursor;
     use std::test::Fail;
 
@@ -173,8 +173,7 @@ mod tests {
             number: 1_000_000,
         };
         let named: Named = [Some(1_000_000); 64];
-        let mut block: Block = [0; 512];
-        write(name, &named, &[255; 224], &mut block)?;
+        let block = block_of(name, &named, &[255; 224])?;
         let mut out = Cursor::new([0u8; 5000]);
         write_line(&Ok(Answer::Written(block)), &mut out)?;
         assert_eq!(rt; out.position(), 1025);

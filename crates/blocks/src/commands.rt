@@ -5,7 +5,7 @@ ghost use Rattle.block.specs.Parts.{parts};
 ghost use Rattle.block.specs.Writing.{writing};
 ghost use Rattle.blocks.specs.declared.commands.Misread.TheVariants.{NamedTwice};
 ghost use Rattle.blocks.specs.Words.{word_of, after_word};
-ghost use Rattle.blocks.specs.Hex.{hex_bytes};
+ghost use Rattle.blocks.specs.Hex.{hex_bytes, ReadsAs};
 ghost use Rattle.blocks.specs.Reasons.{reason_text};
 ghost use Rattle.blocks.specs.Commands.{long_number, short_number, text_in, body_in, name_in, AllNamed, Drafted, Asked};
 
@@ -71,7 +71,7 @@ pub enum Command<'a> {
 impl<'a> Command<'a> {
     // The command of a line without its end.
     // Kept: `parse` names what is done with the bytes; a `try_from` would have the same body, and its clause as a ghost member.
-    // The same holds of `Draft::parse`, and `name_of` answers a type of another crate.
+    // The same holds of `Draft::parse`, and `name_of` answers a type of another crate, for which no impl may stand here.
     pub fn parse(line: &'a [u8]) -> Result<Command<'a>, Misread>
         ensures { IfOk result (λ command. Asked line.now command) }
     {
@@ -150,9 +150,7 @@ fn short_number(word: &[u8]) -> Result<u8, Misread>
 
 // The body that a word writes: none, a text between double quotes, or the bytes of hexadecimal digits.
 fn body_of(word: &[u8]) -> Result<Bytes, Misread>
-    ensures { length word.now ≤ 4096 → MatchResult result
-        (λ bytes. body_in word.now ≡ Ok bytes.items)
-        (λ reason. body_in word.now ≡ Err reason) }
+    ensures { length word.now ≤ 4096 → ReadsAs result (body_in word.now) }
 {
     match word {
         [b'-'] => Ok(Bytes::new()),
@@ -166,9 +164,7 @@ fn body_of(word: &[u8]) -> Result<Bytes, Misread>
 
 // The text before a double quote, which has to end the word and to be the only one.
 fn text_of(rest: &[u8]) -> Result<Bytes, Misread>
-    ensures { length rest.now ≤ 4096 → MatchResult result
-        (λ bytes. text_in rest.now ≡ Ok bytes.items)
-        (λ reason. text_in rest.now ≡ Err reason) }
+    ensures { length rest.now ≤ 4096 → ReadsAs result (text_in rest.now) }
 {
     match rest {
         [text @ .., b'"'] if !text.contains(&b'"') => Ok(copy_of(text)),
@@ -213,6 +209,7 @@ fn name_of(word: &[u8]) -> Option<Name>
     match word {
         [s @ b'0'..=b'7', b'.', c @ b'0'..=b'7', b'.', digits @ ..] => {
             let number = decimal(digits)?;
+            // Kept: the pattern has made sure of both digits, of which `to_digit` would answer an option once more.
             Some(Name {
                 station: *s - b'0',
                 channel: *c - b'0',

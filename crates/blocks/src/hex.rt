@@ -1,7 +1,7 @@
 // Hexadecimal digits: their values, the bytes that they write, and the text of bytes.
 ghost use Rattle.std.specs.Prelude.{◌≡◌, ◌<◌, [], take, IfSome, Some, None, Ok, Err, MatchResult};
 ghost use Rattle.std.specs.List.{flat_map};
-ghost use Rattle.blocks.specs.Hex.{hex_value, hex_text, pushed, hex_bytes};
+ghost use Rattle.blocks.specs.Hex.{hex_value, hex_text, pushed, hex_bytes, ReadsAs};
 
 use crate::commands::Misread;
 use crate::lines::LONGEST_LINE;
@@ -33,12 +33,11 @@ pub fn copy_of(text: &[u8]) -> Bytes
 // The bytes that hexadecimal digits write, two for each byte; blanks between them are passed over.
 #[tactic(auto, using(crate::proofs::Steps::hex_here, crate::proofs::Steps::hex_end))]
 pub fn from_hex(text: &[u8]) -> Result<Bytes, Misread>
-    ensures { MatchResult result
-        (λ bytes. hex_bytes text.now [] None ≡ Ok bytes.items)
-        (λ reason. hex_bytes text.now [] None ≡ Err reason) }
+    ensures { ReadsAs result (hex_bytes text.now [] None) }
 {
     let mut bytes = Bytes::new();
-    // Kept: a digit waits for its second; to take two at a time from an iterator is a loop by hand, with `BadDigit` in it twice.
+    // Kept: a digit waits for its second; to take two at a time from an iterator is a `while let` by hand with a second `next`
+    // in it, which is no plainer.
     let mut high = None;
     for &byte in text {
         if is_blank(byte) {

@@ -40,7 +40,7 @@ fn word_length(text: &[u8]) -> usize
     ensures value { result ≡ word_length text.now false }
     ensures bound { result ≤ length text.now }
 {
-    // Kept: a `scan` with the open quote as its state, and then `position`, is no plainer than this loop.
+    // Kept: a `scan` with the open quote as its state, and then `position`, is no plainer, since both closures need the quote.
     let mut quoted = false;
     for (i, &byte) in text.iter().enumerate() {
         if ends_word(byte, quoted) {
@@ -105,7 +105,8 @@ pub fn decimal(word: &[u8]) -> Option<u32>
     if word.is_empty() {
         return None;
     }
-    // Kept: a `try_fold` is no plainer than this `?` and needs an induction by hand; `parse` of a text would take a plus sign too.
+    // Kept: by a `try_fold` the proof did not close, and it is no plainer than this `?`; `parse` of a text would take a plus
+    // sign too.
     let mut value = 0;
     for &byte in word {
         value = with_digit(value, byte)?;

@@ -41,8 +41,8 @@ impl<A: Carrier, B: Carrier> Wall<A, B> {
     }
 }
 
-// Kept: each call chooses its side by an `if`; a function that lends the side would hand out a dyn value, or an enum of
-// both, in which each call would choose again.
+// Kept: each call chooses its side by an `if`; a function that lends the side would hand out a dyn value, which `rt ci`
+// refuses, or an enum of both, in which each call would choose again.
 impl<A: Carrier, B: Carrier> Carrier for Wall<A, B> {
     ghost meaning = { λ c. wall_means c A.meaning B.meaning };
 

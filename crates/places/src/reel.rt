@@ -27,8 +27,8 @@ impl Reel {
     }
 }
 
-// Kept: count, limit and put are one call each, here and in the tray; a trait over both memories would have to lend a
-// slice that is written, for these alone.
+// Kept: count, limit and put are one call each, here and in the tray; a trait over both memories, an array and a `Vec`,
+// would have a call that lends the slice to be written, for these three alone.
 impl Carrier for Reel {
     ghost use Rattle.carrier.specs.Meaning.{Puts, Takes};
     ghost use Rattle.places.specs.Lawfulness.{reel_lawful};

@@ -12,8 +12,8 @@ use carrier::{Carrier, CarrierFault};
 pub struct Tray {
     memory: Vec<Block>,
     shares: Shares,
-    // Kept: an array beside the runs, since reels share `Shares` and have no turns, and a generic struct cannot hold an
-    // array of what differs.
+    // Kept: an array beside the runs, since reels share `Shares` and have no turns, and a generic struct may hold no
+    // array of its type parameter.
     turns: [Turn; 8],
     ghost eighth: { shares.each ≡ eighth (vec_len memory) },
 }
