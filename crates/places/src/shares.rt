@@ -103,7 +103,7 @@ impl Shares {
         let part = &mut places[share];
         let run = &mut self.runs[usize::from(station)];
         // Kept: read where it lies and then removed, since by `run.remove` alone a block is copied once more: four million
-        // puts and takes on a reel took 157 milliseconds and not 130 (rattle-kit-13f).
+        // puts and takes on a reel took 125 milliseconds and not 79, at best (rattle-kit-13f).
         *into = *run.get(part, at)?;
         let _ = run.remove(part, at);
         Some(())
