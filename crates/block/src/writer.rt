@@ -13,8 +13,8 @@ use crate::masks::Mask;
 use crate::names::{Name, Named};
 
 // Writes the letter's block into memory of 512 bytes; a refusal leaves the memory as it was.
-// Kept: name, table and body apart, here and in `block_of`; a draft's body may be a buffer of its own, so a struct of the
-// three would be made for each call just to be taken apart here.
+// Kept: name, table and body apart, here, in `block_of` and in `lay_letter`; callers hold them apart, a body often in a
+// buffer of its own, so a struct of the three would be made for each call just to be taken apart here.
 pub fn write(name: Name, named: &Named, body: &[u8], memory: &mut [u8]) -> Result<(), BlockFault>
     ensures value { MatchResult result
         (λ _. writing (length memory.old) (parts name named.now body.now) ≡ Ok memory.new)

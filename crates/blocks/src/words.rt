@@ -40,7 +40,8 @@ fn word_length(text: &[u8]) -> usize
     ensures value { result ≡ word_length text.now false }
     ensures bound { result ≤ length text.now }
 {
-    // Kept: a `scan` with the open quote as its state, and then `position`, is no plainer, since both closures need the quote.
+    // Kept: a `scan` whose state is the open quote would have these two steps in its closure, and a `position` and an
+    // `unwrap_or` after it, which is no plainer.
     let mut quoted = false;
     for (i, &byte) in text.iter().enumerate() {
         if ends_word(byte, quoted) {

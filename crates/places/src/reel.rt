@@ -27,8 +27,8 @@ impl Reel {
     }
 }
 
-// Kept: count, limit and put are one call each, here and in the tray; a trait over both memories, an array and a `Vec`,
-// would have a call that lends the slice to be written, for these three alone.
+// Kept: count and put are one call of `Shares` each, here and in the tray; to write them once, a trait over both memories,
+// an array and a `Vec`, would have to lend the slice, to be read and to be written, which is longer.
 impl Carrier for Reel {
     ghost use Rattle.carrier.specs.Meaning.{Puts, Takes};
     ghost use Rattle.places.specs.Lawfulness.{reel_lawful};

@@ -6,7 +6,7 @@ use run::Run;
 use std::ops::Range;
 
 // The runs of stations 0 to 7. Where each has w places, station s has those from w × s on, as far as the places go.
-// Kept: the places are lent to each call, as a run's are, since memory is fixed and the caller's.
+// Kept: the places are lent to each call, as a run's are, since memory is fixed and the reel's, or that of the tray's maker.
 #[derive(Clone, Copy)]
 pub(crate) struct Shares {
     each: usize,
