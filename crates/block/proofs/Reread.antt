@@ -1,7 +1,8 @@
 -- What was read is written as the same bytes.
-use Rattle.std.proofs.Common.{◌≡◌, ℕ, ◌+◌, ◌-◌, ◌*◌, ◌≤◌, eqb, List, ◌++◌, length, get_or, take, drop, Ok, sym, ap, ◌∙◌, ap₂, zero-add, arith}
+use Rattle.std.proofs.Common.{◌≡◌, ℕ, ◌+◌, ◌-◌, ◌*◌, ◌≤◌, true, eqb, List, ◌++◌, length, get_or, take, drop, is_ok, Ok, Err, Result, sym, refl, ap, ◌∙◌, ap₂, zero-add, arith}
 use Rattle.std.specs.List.{flat_map}
-use Rattle.std.proofs.lemmas.Bool.{eqb-true}
+use Rattle.std.proofs.lemmas.Bool.{eqb-true, false≢true}
+use Rattle.block.specs.declared.faults.BlockFault.{BlockFault}
 use Rattle.block.specs.declared.faults.BlockFault.TheVariants.{Length, Check, Kind}
 use Rattle.block.specs.Numbers.{wide, big, Bytes, zeros, fit}
 use Rattle.block.specs.Sum.{weighted}
@@ -9,7 +10,6 @@ use Rattle.block.specs.Mask.{mask_of}
 use Rattle.block.specs.Parts.{Parts, parts_of, name_of, named_of}
 use Rattle.block.specs.Reading.{head_fits, numbers_fit, numbers_from, zeros_in, framed, ranged, cleared, count_in, reading}
 use Rattle.block.specs.Writing.{head, numbers, front, block_of, writing}
-use Rattle.block.specs.Readable.{Readable}
 use Rattle.block.specs.Laws.{WritesBack}
 use Rattle.block.proofs.Places.{below_le}
 use Rattle.std.proofs.lemmas.List.{length-append}
@@ -23,6 +23,18 @@ use Rattle.block.proofs.Sums.{weighted_left}
 -- a block that passes all checks says its parts
 pub says_parts : (xs : List ℕ) → framed xs ≡ Ok tt → ranged xs ≡ Ok tt → cleared xs ≡ Ok tt → reading xs ≡ Ok (parts_of xs)
 says_parts xs f r z = bind_ok (framed xs) _ tt f ∙ bind_ok (ranged xs) _ tt r ∙ bind_ok (cleared xs) _ tt z
+
+-- a block that is readable says its parts, and no others
+pub readable : (xs : List ℕ) → is_ok (reading xs) ≡ true → reading xs ≡ Ok (parts_of xs)
+readable xs h = go (reading xs) refl h
+  where
+    go : (r : Result Parts BlockFault) → reading xs ≡ r → is_ok r ≡ true → reading xs ≡ Ok (parts_of xs)
+    go (Ok p) e t =
+        let f = bind_was (framed xs) _ p e in
+        let r = bind_was (ranged xs) _ p f.2 in
+        let z = bind_was (cleared xs) _ p r.2 in
+        e ∙ sym z.2
+    go (Err x) e t = absurd (false≢true t)
 
 -- what a block that passed says of its bytes
 pub record Passed (xs : List ℕ) : Type 0 where
@@ -132,6 +144,6 @@ check_same xs h again =
     let q = (passed xs p h).0 in
     grind (arith, q.check, q.long, length-append (front p) (big 4 sum), length-big 4 sum, weighted_left 508 (front p) (big 4 sum))
 
--- a block that passes all checks is a letter's
-pub letter_block : (xs : List ℕ) → Bytes xs → reading xs ≡ Ok (parts_of xs) → Readable xs
-letter_block xs b h = record { says = h; again = block_same xs b (passed xs (parts_of xs) h).0 }
+-- a block that says its parts is the block of these parts
+pub letter_block : (xs : List ℕ) → Bytes xs → reading xs ≡ Ok (parts_of xs) → block_of (parts_of xs) ≡ xs
+letter_block xs b h = block_same xs b (passed xs (parts_of xs) h).0

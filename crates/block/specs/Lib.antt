@@ -7,5 +7,5 @@ pub mod Text
 pub mod Parts
 pub mod Reading
 pub mod Writing
-pub mod Readable
+pub mod Letters
 pub mod Laws

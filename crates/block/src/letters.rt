@@ -1,8 +1,8 @@
 // A letter read from a block, and the questions for its parts.
-ghost use Rattle.std.specs.Prelude.{◌≡◌, ◌≤◌, length, IfOk, None, Ok, OnOk, slice_index, slice_index_or};
+ghost use Rattle.std.specs.Prelude.{◌≡◌, ◌≤◌, true, length, is_ok, IfOk, None, Ok, Err, MatchResult, OnOk, slice_index, slice_index_or};
 ghost use Rattle.block.specs.Mask.{mask_of, present};
 ghost use Rattle.block.specs.Sum.{weighted};
-ghost use Rattle.block.specs.Parts.{name_of};
+ghost use Rattle.block.specs.Parts.{parts_of, name_of};
 ghost use Rattle.block.specs.Reading.{framed, ranged, cleared, reading};
 ghost use Rattle.block.specs.Writing.{front, block_of, writing};
 
@@ -10,36 +10,27 @@ use crate::faults::BlockFault;
 use crate::fields::{Block, EDITION, KIND, check_numbers, check_of, head_fits, number_at, zeros};
 use crate::masks::Mask;
 use crate::names::Name;
-use std::marker::Model;
 
-// A letter (message): a block that was read without a fault. Contracts see its parts.
+// A letter (message): a block that was read without a fault. Contracts speak of the bytes that it holds and of its parts.
+// Kept: ghost fields and no model; a struct that is `Copy` and holds a letter could not be passed by value twice if the
+// letter had one, and whoever has a letter would know nothing of its parts' ranges.
 #[derive(Clone, Copy)]
 pub struct Letter {
     block: Block,
-}
-
-impl Model for Letter {
-    ghost use Rattle.block.specs.Parts.{Parts, parts_of};
-    ghost use Rattle.block.specs.Writing.{block_of};
-    ghost use Rattle.block.specs.Readable.{Readable};
-    ghost use Rattle.std.proofs.Common.{ap};
-
-    ghost Value = { Parts };
-
-    ghost view = { λ letter. parts_of letter.block };
-
-    ghost invariant = { λ letter. Readable letter.block };
-
-    ghost inverse = { λ p. record { block = block_of p } };
-
-    ghost inverse_ok = { λ letter h. ap (λ xs. record { block = xs }) h.again };
+    ghost readable: { is_ok (reading block) ≡ true },
+    ghost short: { slice_index block 8 ≤ 224 },
+    ghost again: { block_of (parts_of block) ≡ block },
 }
 
 impl Letter {
+    ghost use Rattle.block.specs.Letters.{bytes_of, said_by};
+
     // The letter that the bytes say, or the first fault.
     pub fn read(bytes: &[u8]) -> Result<Letter, BlockFault>
-        ensures value { result ≡ reading bytes.now }
-        ensures again { IfOk result (λ letter. writing 512 letter ≡ Ok bytes.now) }
+        ensures value { MatchResult result
+            (λ letter. (bytes_of letter ≡ bytes.now) × (reading bytes.now ≡ Ok (said_by letter)))
+            (λ fault. reading bytes.now ≡ Err fault) }
+        ensures again { IfOk result (λ letter. writing 512 (said_by letter) ≡ Ok bytes.now) }
     {
         let block: &Block = bytes.as_array().ok_or(BlockFault::Length)?;
         check_frame(block)?;
@@ -50,14 +41,14 @@ impl Letter {
 
     // The letter's name.
     pub fn name(&self) -> Name
-        ensures { result ≡ self.now.name }
+        ensures { result ≡ (said_by self.now).name }
     {
         name_at(&self.block)
     }
 
     // The number that the letter names of a pair, or none.
     pub fn named(&self, pair: u8) -> Option<u32>
-        ensures { result ≡ slice_index_or self.now.named pair None }
+        ensures { result ≡ slice_index_or (said_by self.now).named pair None }
     {
         let mask = Mask::read(&self.block);
         let pair = usize::from(pair);
@@ -71,14 +62,14 @@ impl Letter {
 
     // How many letters it names.
     pub fn names(&self) -> u32
-        ensures { result ≡ length (present self.now.named) }
+        ensures { result ≡ length (present (said_by self.now).named) }
     {
         Mask::read(&self.block).count()
     }
 
     // The body.
     pub fn body(&self) -> &[u8]
-        ensures body { result.now ≡ self.now.body }
+        ensures body { result.now ≡ (said_by self.now).body }
         ensures short { length result.now ≤ 224 }
     {
         &self.block[280..280 + usize::from(self.block[8])]
@@ -86,22 +77,23 @@ impl Letter {
 
     // The mask of the pairs that it names.
     pub fn mask(&self) -> u64
-        ensures { result ≡ mask_of self.now.named 64 }
+        ensures { result ≡ mask_of (said_by self.now).named 64 }
     {
         Mask::read(&self.block).0
     }
 
     // The check of its block.
     pub fn check(&self) -> u32
-        ensures { result ≡ weighted (front self.now) 508 }
+        ensures { result ≡ weighted (front (said_by self.now)) 508 }
     {
         number_at(&self.block, 508)
     }
 
     // The block that the letter was read from, which reads as the letter again.
     pub fn block(&self) -> &Block
-        ensures value { result.now ≡ block_of self.now }
-        ensures again { reading result.now ≡ Ok self.now }
+        ensures bytes { result.now ≡ bytes_of self.now }
+        ensures value { result.now ≡ block_of (said_by self.now) }
+        ensures again { reading result.now ≡ Ok (said_by self.now) }
     {
         &self.block
     }

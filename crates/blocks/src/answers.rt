@@ -1,5 +1,6 @@
 // The answers to commands, and how they are written.
 ghost use Rattle.std.specs.Prelude.{◌≡◌, Some};
+ghost use Rattle.block.specs.Letters.{said_by};
 ghost use Rattle.blocks.specs.declared.answers.Refusal.TheVariants.{Refused, NotUnderstood};
 ghost use Rattle.blocks.specs.Reasons.{refusal_text};
 ghost use Rattle.blocks.specs.Answers.{Answered};
@@ -101,7 +102,7 @@ pub fn write_line<W: Write>(answer: &Result<Answer<'_>, Refusal>, out: &mut W) -
 struct Listing<'a>(&'a Letter);
 
 impl fmt::Display for Listing<'_> {
-    ghost output = { λ x. Some (letter_text x.0.now) };
+    ghost output = { λ x. Some (letter_text (said_by x.0.now)) };
 
     fn fmt<W: fmt::Write>(&self, f: &mut fmt::Formatter<W>) -> fmt::Result {
         let letter = self.0;
@@ -116,7 +117,7 @@ impl fmt::Display for Listing<'_> {
 struct Names<'a>(&'a Letter);
 
 impl fmt::Display for Names<'_> {
-    ghost output = { λ x. Some (names_text x.0.now.named) };
+    ghost output = { λ x. Some (names_text (said_by x.0.now).named) };
 
     fn fmt<W: fmt::Write>(&self, f: &mut fmt::Formatter<W>) -> fmt::Result {
         let letter = self.0;
@@ -152,13 +153,15 @@ impl fmt::Display for Body<'_> {
 #[cfg(test)]
 mod tests {
     use super::*;
+    use crate::hex::copy_of;
     use block::{Named, block_of};
     use std::io::Cursor;
     use std::test::Fail;
 
     #[test]
     fn longest_comment_finds_room(rt: HostRuntime) -> Result<(), Fail> {
-        let comment = Ok(Answer::Same(&[b'#'; 4096]));
+        let text = copy_of(&[b'#'; 4096]);
+        let comment = Ok(Answer::Same(&text));
         let mut out = Cursor::new([0u8; 5000]);
         write_line(&comment, &mut out)?;
         assert_eq!(rt; out.position(), 4097);
