@@ -67,7 +67,11 @@ impl Line {
     pub fn clear(&mut self)
         ensures { self.new ≡ Some [] }
     {
-        *self = Line::new();
+        if let Some(held) = &mut self.held {
+            held.clear();
+        } else {
+            *self = Line::new();
+        }
     }
 
     // The bytes of the line, or none where there are too many.
