@@ -1,4 +1,4 @@
-// Fills and empties the bags of any carrier's stations, and lists each step.
+// Fills and empties the bag of one station of any carrier, and lists each step.
 ghost use Rattle.carriers.specs.Filling.{OnlyFor, FullFor, NoneFor};
 ghost use Rattle.std.specs.Prelude.{OnOk};
 
@@ -6,78 +6,82 @@ use crate::letters::{letter, name};
 use block::{Block, Letter};
 use carrier::{Carrier, take_and_put_back};
 
-// A trial of a carrier: the carrier, and where each step with it is listed.
-// Kept: each call is given its station, since one trial serves several in turn.
-#[derive(Drop)]
-pub struct Trial<'a, C> {
+// A trial of a carrier's station, and where each step is listed.
+// Kept: each call is lent the carrier; of one that a trial borrowed, its owner would not know what the trial left in it.
+#[derive(Clone, Copy)]
+pub struct Trial<'a> {
     pub rt: &'a HostRuntime,
-    pub carrier: C,
+    pub station: u8,
 }
 
-impl<C: Carrier> Trial<'_, C> {
-    // Fills a station's bag and empties it, twice; before the second emptying one block is taken and put back.
-    pub fn fill_twice(&mut self, station: u8) -> anyhow::Result<()>
-        ensures none { OnOk result (NoneFor station (C.meaning self.new.carrier)) }
-        ensures only { OnlyFor station (C.meaning self.old.carrier) (C.meaning self.new.carrier) }
+impl Trial<'_> {
+    // Fills the station's bag and empties it, twice; before the second emptying one block is taken and put back.
+    pub fn fill_twice<C: Carrier>(&self, carrier: &mut C) -> anyhow::Result<()>
+        ensures none { OnOk result (NoneFor self.now.station (C.meaning carrier.new)) }
+        ensures only { OnlyFor self.now.station (C.meaning carrier.old) (C.meaning carrier.new) }
     {
-        let limit = self.carrier.limit(station);
+        let station = self.station;
+        let limit = carrier.limit(station);
         println!(self.rt; "station {station}: {limit} may wait")?;
-        self.fill(station, 1)?;
-        self.empty(station)?;
-        self.fill(station, 11)?;
-        self.put_back(station)?;
-        self.empty(station)
+        self.fill(carrier, 1)?;
+        self.empty(carrier)?;
+        self.fill(carrier, 11)?;
+        self.put_back(carrier)?;
+        self.empty(carrier)
     }
 
-    // Puts letters for a station, numbered from a number on, until one is refused: then as many wait as may.
+    // Puts letters for the station, numbered from a number on, until one is refused: then as many wait as may.
     #[tactic(auto, using(carrier::proofs::Bagging::more_length))]
-    pub fn fill(&mut self, station: u8, first: u32) -> anyhow::Result<()>
-        ensures full { OnOk result (FullFor station (C.meaning self.new.carrier)) }
-        ensures only { OnlyFor station (C.meaning self.old.carrier) (C.meaning self.new.carrier) }
+    pub fn fill<C: Carrier>(&self, carrier: &mut C, first: u32) -> anyhow::Result<()>
+        ensures full { OnOk result (FullFor self.now.station (C.meaning carrier.new)) }
+        ensures only { OnlyFor self.now.station (C.meaning carrier.old) (C.meaning carrier.new) }
     {
+        let station = self.station;
         // Kept: a `for number in first..` ends at the largest number and wants an answer after it, which is never met,
         // since `letter` refuses numbers above a million.
         let mut number = first;
         loop {
             let name = name(number);
             let block = letter(number)?;
-            if let Err(fault) = self.carrier.put(station, &block) {
+            if let Err(fault) = carrier.put(station, &block) {
                 println!(self.rt; "station {station}: put {name}: {fault}")?;
                 return Ok(());
             }
-            let count = self.carrier.count(station);
+            let count = carrier.count(station);
             println!(self.rt; "station {station}: put {name}: {count} waiting")?;
             number = number.saturating_add(1);
         }
     }
 
-    // Takes blocks for a station until there is none.
+    // Takes blocks for the station until there is none.
     #[tactic(auto, using(carrier::proofs::Bagging::more_length))]
-    pub fn empty(&mut self, station: u8) -> anyhow::Result<()>
-        ensures none { OnOk result (NoneFor station (C.meaning self.new.carrier)) }
-        ensures only { OnlyFor station (C.meaning self.old.carrier) (C.meaning self.new.carrier) }
+    pub fn empty<C: Carrier>(&self, carrier: &mut C) -> anyhow::Result<()>
+        ensures none { OnOk result (NoneFor self.now.station (C.meaning carrier.new)) }
+        ensures only { OnlyFor self.now.station (C.meaning carrier.old) (C.meaning carrier.new) }
     {
+        let station = self.station;
         let mut block = [0; 512];
-        while let Some(()) = self.carrier.take(station, &mut block) {
-            self.list(station, "took", &block)?;
+        while let Some(()) = carrier.take(station, &mut block) {
+            self.list("took", &block, carrier.count(station))?;
         }
-        self.list_none(station)
+        self.list_none()
     }
 
-    // Takes a block for a station and puts it back.
-    pub fn put_back(&mut self, station: u8) -> anyhow::Result<()>
-        ensures { OnlyFor station (C.meaning self.old.carrier) (C.meaning self.new.carrier) }
+    // Takes a block for the station and puts it back.
+    pub fn put_back<C: Carrier>(&self, carrier: &mut C) -> anyhow::Result<()>
+        ensures { OnlyFor self.now.station (C.meaning carrier.old) (C.meaning carrier.new) }
     {
+        let station = self.station;
         let mut block = [0; 512];
-        match take_and_put_back(&mut self.carrier, station, &mut block) {
-            Some(()) => self.list(station, "took and put back", &block),
-            None => self.list_none(station),
+        match take_and_put_back(carrier, station, &mut block) {
+            Some(()) => self.list("took and put back", &block, carrier.count(station)),
+            None => self.list_none(),
         }
     }
 
     // Lists what was done with a block, by its letter's name, and how many wait then.
-    fn list(&self, station: u8, done: &str, block: &Block) -> anyhow::Result<()> {
-        let count = self.carrier.count(station);
+    fn list(&self, done: &str, block: &Block, count: usize) -> anyhow::Result<()> {
+        let station = self.station;
         match Letter::read(block) {
             Ok(letter) => {
                 let name = letter.name();
@@ -94,7 +98,8 @@ impl<C: Carrier> Trial<'_, C> {
     }
 
     // Lists that no block was there to be taken.
-    fn list_none(&self, station: u8) -> anyhow::Result<()> {
+    fn list_none(&self) -> anyhow::Result<()> {
+        let station = self.station;
         println!(self.rt; "station {station}: took none")?;
         Ok(())
     }

@@ -21,7 +21,7 @@ fn wall_of(memory: Vec<Block>) -> Result<Wall<Tray, Reel>, Unmade> {
 // Makes a wall in a memory of so many blocks, uses it, and takes it apart again.
 fn run(rt: &HostRuntime, blocks: usize) -> anyhow::Result<()> {
     let memory = vec![in rt.alloc(); [0u8; 512]; blocks]?;
-    let wall = match wall_of(memory) {
+    let mut wall = match wall_of(memory) {
         Ok(wall) => wall,
         Err(unmade) => {
             let fault = unmade.fault;
@@ -31,11 +31,11 @@ fn run(rt: &HostRuntime, blocks: usize) -> anyhow::Result<()> {
         }
     };
     println!(rt; "tray of {blocks} blocks: made")?;
-    let mut trial = Trial { rt, carrier: wall };
     for station in [2, 5, 8] {
-        trial.fill_twice(station)?;
+        let trial = Trial { rt, station };
+        trial.fill_twice(&mut wall)?;
     }
-    let (tray, _) = trial.carrier.into_sides();
+    let (tray, _) = wall.into_sides();
     let back = tray.into_memory().len();
     println!(rt; "tray of {blocks} blocks: {back} handed back")?;
     Ok(())
