@@ -1,16 +1,28 @@
 -- From what puts and takes do with a station's list to what it means for its bag.
-use Rattle.std.proofs.Common.{◌≡◌, ℕ, suc, ◌+◌, ◌≢◌, List, [], ◌∷◌, ◌++◌, length, take, Some, None, Option, slice_index_or, arith, sym, ap, subst, ◌∙◌}
+use Rattle.std.proofs.Common.{◌≡◌, ℕ, suc, ◌+◌, ◌≢◌, List, [], ◌∷◌, ◌++◌, length, take, Some, None, Ok, Err, Option, Result, slice_index_or, arith, sym, ap, subst, ◌∙◌}
 use Rattle.std.specs.List.{remove}
 use Rattle.std.proofs.lemmas.List.{take_more, take_all, drop_all, append-nil, nil_from_length, with_items_is}
 use Rattle.std.proofs.lemmas.Bool.Decides.{nat_tests}
+use Rattle.carrier.specs.declared.faults.CarrierFault.{CarrierFault}
 use Rattle.places.specs.declared.turns.Turn.{Turn}
 use Rattle.places.specs.declared.turns.Turn.TheVariants.{Newest, Oldest}
 use Rattle.carrier.specs.Bags.{Block, OneMore, this}
-use Rattle.carrier.specs.Meaning.{Meaning, Takes, TakeOwn, take_answer}
-use Rattle.places.specs.Shares.{TakenAt}
+use Rattle.carrier.specs.Meaning.{Meaning, Puts, PutOwn, put_answer, Takes, TakeOwn, take_answer}
+use Rattle.places.specs.Shares.{Queued, TakenAt}
 use Rattle.places.specs.Turns.{place_of, ByTurn}
 use Rattle.carrier.proofs.Bagging.{more_at_end}
 use Rattle.places.proofs.Sharing.{room_whole}
+
+-- a put that lists its block as the newest
+pub puts_queued : (s : ℕ) (b : Block) (r : Result (Unit {0}) CarrierFault) (before after : Meaning)
+    → r ≡ put_answer (length (before.bag s)) (before.limit s) → Queued r b (before.bag s) (after.bag s)
+    → ((t : ℕ) → (t ≢ s) → after.bag t ≡ before.bag t) → ((t : ℕ) → after.limit t ≡ before.limit t)
+    → Puts s b r before after
+puts_queued s b r before after answer queued others limits = record { answer = answer; own = own r queued; others = others; limits = limits }
+  where
+    own : (q : Result (Unit {0}) CarrierFault) → Queued q b (before.bag s) (after.bag s) → PutOwn q b (before.bag s) (after.bag s)
+    own (Ok done) e = subst (λ l. OneMore b l (before.bag s)) (sym e) (more_at_end (before.bag s) b)
+    own (Err fault) e = e
 
 -- what puts need
 pub ruleset queued = (more_at_end, room_whole, with_items_is)

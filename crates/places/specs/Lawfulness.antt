@@ -1,19 +1,15 @@
 -- Why reel and tray are lawful carriers: the proofs that their laws cite.
 --   lawful_held  where each station has from 1 to 1,000 places, limits and bags are as a carrier's have to be
---   reel_lawful  so they are in a reel
---   tray_lawful  and in a tray
-use Rattle.std.specs.Prelude.{◌≡◌, ℕ, List, vec_items, vec_len}
+--   reel_lawful  so they are with 4 places for each station
+--   tray_lawful  and with an eighth of the blocks, at most 64
+use Rattle.std.specs.Prelude.{◌≡◌, ℕ, List}
 use Rattle.std.proofs.Common.{arith}
 use Rattle.std.proofs.lemmas.List.{length-take}
 use Rattle.std.proofs.lemmas.Bool.Decides.{nat_tests}
 use Rattle.carrier.specs.Bags.{Block}
 use Rattle.carrier.specs.Meaning.{Lawful}
-use Rattle.places.specs.Reels.{reel_means}
 use Rattle.places.specs.Shares.{eighth, held, room}
-use Rattle.places.specs.Trays.{tray_means}
-use Rattle.places.specs.declared.reel.Reel.{Reel}
 use Rattle.places.specs.declared.shares.Shares.{Shares}
-use Rattle.places.specs.declared.tray.Tray.{Tray}
 
 pub lawful_held : (shares : Shares) (places : List Block) (limit : ℕ) → shares.each ≡ limit → (s : ℕ)
     → Lawful s (record { bag = held shares places; limit = room limit })
@@ -24,8 +20,9 @@ lawful_held shares places limit e s = record {
   within = grind (arith, nat_tests, length-take);
 }
 
-pub reel_lawful : (reel : Reel) (s : ℕ) → Lawful s (reel_means reel)
-reel_lawful reel s = lawful_held reel.shares reel.places 4 reel.four s
+pub reel_lawful : (shares : Shares) → shares.each ≡ 4 → (places : List Block) (s : ℕ) → Lawful s (record { bag = held shares places; limit = room 4 })
+reel_lawful shares four places s = lawful_held shares places 4 four s
 
-pub tray_lawful : (tray : Tray) (s : ℕ) → Lawful s (tray_means tray)
-tray_lawful tray s = lawful_held tray.shares (vec_items tray.memory) (eighth (vec_len tray.memory)) tray.eighth s
+pub tray_lawful : (blocks : ℕ) (shares : Shares) → shares.each ≡ eighth blocks → (places : List Block) (s : ℕ)
+    → Lawful s (record { bag = held shares places; limit = room (eighth blocks) })
+tray_lawful blocks shares each places s = lawful_held shares places (eighth blocks) each s

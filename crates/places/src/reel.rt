@@ -5,6 +5,9 @@ use crate::shares::Shares;
 use block::Block;
 use carrier::{Carrier, CarrierFault};
 
+// How many places a station has.
+const EACH: usize = 4;
+
 // A reel (first-in-first-out transport).
 #[derive(Drop)]
 pub struct Reel {
@@ -22,7 +25,7 @@ impl Reel {
     {
         Reel {
             places: [[0; 512]; 32],
-            shares: Shares::new(4),
+            shares: Shares::new(EACH),
         }
     }
 }
@@ -39,7 +42,7 @@ impl Carrier for Reel {
 
     ghost meaning = { reel_means };
 
-    ghost lawful = { reel_lawful };
+    ghost lawful = { λ c s. reel_lawful c.shares c.four c.places s };
 
     fn count(&self, station: u8) -> usize {
         self.shares.length(&self.places, station)
@@ -54,6 +57,7 @@ impl Carrier for Reel {
         ensures puts { Puts station block.now result (reel_means self.old) (reel_means self.new) }
         ensures queued { Queued result block.now (reel_waits self.old station) (reel_waits self.new station) }
     {
+        self.shares.each_is(EACH);
         self.shares.add(&mut self.places, station, *block)
     }
 
@@ -61,6 +65,7 @@ impl Carrier for Reel {
         ensures takes { Takes station result into.old into.new (reel_means self.old) (reel_means self.new) }
         ensures oldest { ByTurn Oldest result into.new (reel_waits self.old station) (reel_waits self.new station) }
     {
+        self.shares.each_is(EACH);
         self.shares.take(&mut self.places, station, 0, into)
     }
 }

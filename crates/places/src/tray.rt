@@ -67,13 +67,14 @@ impl Tray {
 impl Carrier for Tray {
     ghost use Rattle.carrier.specs.Meaning.{Puts, Takes};
     ghost use Rattle.places.specs.Lawfulness.{tray_lawful};
+    ghost use Rattle.std.specs.Prelude.{vec_items};
     ghost use Rattle.places.specs.Shares.{Queued};
     ghost use Rattle.places.specs.Trays.{memory_of, tray_waits, tray_means, turn_of};
     ghost use Rattle.places.specs.Turns.{ByTurn, turn_after};
 
     ghost meaning = { tray_means };
 
-    ghost lawful = { tray_lawful };
+    ghost lawful = { λ c s. tray_lawful (vec_len c.memory) c.shares c.eighth (vec_items c.memory) s };
 
     fn count(&self, station: u8) -> usize {
         self.shares.length(self.memory.as_slice(), station)
