@@ -12,8 +12,8 @@ use crate::masks::Mask;
 use crate::names::Name;
 
 // A letter (message): a block that was read without a fault. Contracts speak of the bytes that it holds and of its parts.
-// Kept: ghost fields and no model; a struct that is `Copy` and holds a letter could not be passed by value twice if the
-// letter had one, and whoever has a letter would know nothing of its parts' ranges.
+// Kept: ghost fields and no model; if the letter had one, a variable of a `Copy` struct that holds a letter could not be
+// passed by value twice, and whoever has a letter would know its parts' ranges only by asking for its block, too.
 #[derive(Clone, Copy)]
 pub struct Letter {
     block: Block,

@@ -84,7 +84,7 @@ impl fmt::Display for HexBytes<'_> {
     ghost output = { λ x. Some (flat_map hex_text x.0.now) };
 
     fn fmt<W: fmt::Write>(&self, f: &mut fmt::Formatter<W>) -> fmt::Result {
-        // Kept: digit by digit; by `{byte:02x}` a line that writes a block, whose bytes are mostly zeros, took 1.3 to 1.7 times as long.
+        // Kept: digit by digit; by `{byte:02x}` a line that writes a block, whose bytes are mostly zeros, took 1.04 to 1.7 times as long.
         for &byte in self.0 {
             f.write_char(char::from(hex_digit(byte / 16)))?;
             f.write_char(char::from(hex_digit(byte % 16)))?;
